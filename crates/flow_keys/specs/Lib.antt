@@ -1,0 +1,4 @@
+pub mod Frame
+pub mod Key
+pub mod Numbers
+pub mod Text

@@ -1,0 +1,26 @@
+//! Flow keys: which flow a captured frame belongs to, and how the flow is written.
+//!
+//! - `link`: the links of pcap that are read
+//! - `key`: `FlowKey`, eleven words
+//! - `frame`: `key_of`, from a frame to the key of its packet
+//! - `packet`: the keys of IPv4 and IPv6 packets
+//! - `numbers`: big-endian numbers
+//! - `text`: `key_text`, from a key to its text
+//!
+//! `specs/Frame.antt` says by byte positions which key a frame has; `specs/Text.antt` says the text of a key.
+//! No call takes memory. Two keys with one text are one key, as `one_text_one_key` says.
+#![tactic(auto)]
+
+mod frame;
+mod key;
+mod link;
+mod numbers;
+mod packet;
+#[cfg(test)]
+mod tests;
+mod text;
+
+pub use frame::key_of;
+pub use key::FlowKey;
+pub use link::Link;
+pub use text::{KeyText, key_text, one_text_one_key};

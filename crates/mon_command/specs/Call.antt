@@ -1,0 +1,74 @@
+-- What a call answers, and what it shows of the cause.
+use Rattle.std.specs.Prelude.{◌≡◌, ◌≤◌, ℕ, List, Result, Ok, Err}
+use Rattle.mon_io.specs.Faults.{Rose}
+use Rattle.mon_io.specs.Inputs.{InputState, IsLeft}
+use Rattle.mon_io.specs.Sink.{SinkState, Grew, GrewByPart}
+use Rattle.mon_command.specs.Asked.{Asked, Total}
+use Rattle.mon_command.specs.Total.{IsTotal, IsBroken}
+use Rattle.mon_command.specs.declared.status.Input.{Input}
+use Rattle.mon_command.specs.declared.status.Input.TheVariants as inputs
+use Rattle.mon_command.specs.declared.status.Status.{Status}
+use Rattle.mon_command.specs.declared.status.Status.TheVariants.{Done, Usage, ReadFault, Trace, SinkFault, Memory}
+use Rattle.mon_command.specs.declared.status.TraceFault.{TraceFault}
+use Rattle.mon_command.specs.declared.status.TraceFault.TheVariants.{Pcap}
+use Rattle.mon_command.specs.declared.status.UsageFault.{UsageFault}
+
+-- the inputs and the sink, before and after
+pub record Call : Type 0 where
+  pub inputs : InputState
+  pub inputs_after : InputState
+  pub sink : SinkState
+  pub sink_after : SinkState
+
+abbrev pub call_of : InputState → InputState → SinkState → SinkState → Call
+call_of inputs inputs_after sink sink_after =
+    record { inputs = inputs; inputs_after = inputs_after; sink = sink; sink_after = sink_after }
+
+-- the text that is due
+abbrev pub IsDue : Asked → Call → List ℕ → Type 0
+IsDue (Total trace) call text = IsTotal (call.inputs.contents trace) text
+
+-- why the trace is refused
+abbrev pub IsRefused : Asked → Call → TraceFault → Type 0
+IsRefused (Total trace) call (Pcap fault) = IsBroken (call.inputs.contents trace) fault
+
+-- The inputs that come before this one were read to their end, and of this one a suffix is left.
+abbrev pub ReadUpTo : Asked → Input → Call → Type 0
+ReadUpTo (Total trace) inputs.Trace call = IsLeft (call.inputs.contents trace) call.inputs.rest call.inputs_after.rest
+
+-- nothing was appended
+abbrev pub IsSilent : Call → Type 0
+IsSilent call = call.sink_after.written ≡ call.sink.written
+
+-- exactly the due text was appended
+pub record WroteDue (asked : Asked) (call : Call) : Type 0 where
+  pub text : List ℕ
+  pub due : IsDue asked call text
+  pub grew : Grew call.sink.written call.sink_after.written text
+
+-- a prefix of the due text was appended
+pub record WrotePart (asked : Asked) (call : Call) : Type 0 where
+  pub text : List ℕ
+  pub due : IsDue asked call text
+  pub part : GrewByPart call.sink.written call.sink_after.written text
+
+-- each status with its cause
+abbrev pub Answers : Asked → Call → Status → Type 0
+Answers asked call Done = WroteDue asked call
+Answers asked call (Usage fault) = ⊥
+Answers asked call (ReadFault input) =
+    Rose call.inputs.faults call.inputs_after.faults × ReadUpTo asked input call × IsSilent call
+Answers asked call (Trace fault) = IsRefused asked call fault × IsSilent call
+Answers asked call SinkFault = Rose call.sink.faults call.sink_after.faults × WrotePart asked call
+Answers asked call Memory = IsSilent call
+
+-- a call is answered by its words, and else by what they ask for
+abbrev pub Outcome : Result Asked UsageFault → Call → Status → Type 0
+Outcome (Ok asked) call status = Answers asked call status
+Outcome (Err fault) call status = (status ≡ Usage fault) × IsSilent call
+
+-- No contents by name changed, and no count of faults fell.
+pub record Keeps (call : Call) : Type 0 where
+  pub contents : call.inputs_after.contents ≡ call.inputs.contents
+  pub inputs_later : call.inputs.faults ≤ call.inputs_after.faults
+  pub sink_later : call.sink.faults ≤ call.sink_after.faults

@@ -1,0 +1,133 @@
+//! How a call ended.
+ghost use Rattle.std.specs.Prelude.{◌≡◌, IfOk, string_bytes};
+ghost use Rattle.mon_command.specs.Status.{number_of, line_of, pcap_line, usage_line};
+
+use mon_io::Memory;
+use pcap_reader::PcapFault;
+use std::alloc::{AllocError, Global};
+
+/// How a call ended.
+#[derive(Clone, Copy, Debug, PartialEq, Eq)]
+pub enum Status {
+    /// The work was done and the whole text written.
+    Done,
+    /// The words of the call are refused.
+    Usage(UsageFault),
+    /// An input could not be picked or read.
+    ReadFault(Input),
+    /// The trace is refused, by its first fault in the order of the file.
+    Trace(TraceFault),
+    /// The text could not be written to its end.
+    SinkFault,
+    /// A growth was refused.
+    Memory,
+}
+
+/// Why the words of a call are refused.
+#[derive(Clone, Copy, Debug, PartialEq, Eq)]
+pub enum UsageFault {
+    /// There is no word.
+    NoCommand,
+    /// The first word is no command.
+    UnknownCommand,
+    /// The command does not take the other words.
+    Refused,
+}
+
+/// What is read.
+#[derive(Clone, Copy, Debug, PartialEq, Eq)]
+pub enum Input {
+    /// The trace.
+    Trace,
+}
+
+/// Why a trace is refused.
+#[derive(Clone, Copy, Debug, PartialEq, Eq)]
+pub enum TraceFault {
+    /// It is no classic pcap trace.
+    Pcap(PcapFault),
+}
+
+/// The number with which the program ends: 0 where the work was done.
+pub fn status_number(status: &Status) -> u8
+    ensures { result ≡ number_of status.now }
+{
+    match status {
+        Status::Done => 0,
+        Status::Usage(_) => 2,
+        Status::ReadFault(_) => 3,
+        Status::Trace(_) => 5,
+        Status::SinkFault => 10,
+        Status::Memory => 13,
+    }
+}
+
+/// The line for standard error, without a line feed; empty where the work was done.
+pub fn status_line(alloc: Global, status: &Status) -> Result<String, Memory>
+    ensures { IfOk result (λ line. string_bytes line ≡ line_of status.now) }
+{
+    let line = match status {
+        Status::Done => String::from_str(alloc, ""),
+        Status::Usage(fault) => usage_text(alloc, *fault),
+        Status::ReadFault(Input::Trace) => String::from_str(alloc, "univmon: cannot read trace"),
+        Status::Trace(TraceFault::Pcap(fault)) => pcap_text(alloc, *fault),
+        Status::SinkFault => String::from_str(alloc, "univmon: cannot write"),
+        Status::Memory => String::from_str(alloc, "univmon: out of memory"),
+    };
+    match line {
+        Ok(line) => Ok(line),
+        Err(_) => Err(Memory),
+    }
+}
+
+fn usage_text(alloc: Global, fault: UsageFault) -> Result<String, AllocError>
+    ensures { IfOk result (λ line. string_bytes line ≡ usage_line fault) }
+{
+    match fault {
+        UsageFault::NoCommand => String::from_str(alloc, "univmon: usage: no command"),
+        UsageFault::UnknownCommand => String::from_str(alloc, "univmon: usage: unknown command"),
+        UsageFault::Refused => String::from_str(alloc, "univmon: usage: words refused"),
+    }
+}
+
+fn pcap_text(alloc: Global, fault: PcapFault) -> Result<String, AllocError>
+    ensures { IfOk result (λ line. string_bytes line ≡ pcap_line fault) }
+{
+    match fault {
+        PcapFault::ShortHeader { at } => {
+            format!(in alloc; "univmon: trace: short header at {at}")
+        }
+        PcapFault::NotClassic { magic } => classic_text(alloc, magic),
+        PcapFault::Version { major, minor } => {
+            format!(in alloc; "univmon: trace: version {major} {minor}")
+        }
+        PcapFault::Link { number } => format!(in alloc; "univmon: trace: link {number}"),
+        PcapFault::ShortRecord { at } => {
+            format!(in alloc; "univmon: trace: short record at {at}")
+        }
+        PcapFault::LongRecord { at, length } => {
+            format!(in alloc; "univmon: trace: long record at {at} length {length}")
+        }
+        PcapFault::TooMany => String::from_str(alloc, "univmon: trace: too many records"),
+    }
+}
+
+// The line of a magic number, by its eight digits.
+#[tactic(auto, unfolding(crate::specs::Status::eight_digits))]
+fn classic_text(alloc: Global, magic: u32) -> Result<String, AllocError>
+    ensures { IfOk result (λ line. string_bytes line ≡ pcap_line (PcapFault.NotClassic magic)) }
+{
+    let (a, b, c, d) = (
+        magic / 268_435_456,
+        magic / 16_777_216 % 16,
+        magic / 1_048_576 % 16,
+        magic / 65536 % 16,
+    );
+    let (e, f, g, h) = (
+        magic / 4096 % 16,
+        magic / 256 % 16,
+        magic / 16 % 16,
+        magic % 16,
+    );
+    format!(in alloc; "univmon: trace: not classic {a:x}{b:x}{c:x}{d:x}{e:x}{f:x}{g:x}{h:x}")
+}

@@ -1,0 +1,10 @@
+pub mod Faults
+pub mod Files
+pub mod Inputs
+pub mod MemInputs
+pub mod MemSink
+pub mod NeverInputs
+pub mod NeverSink
+pub mod Room
+pub mod Shelf
+pub mod Sink
