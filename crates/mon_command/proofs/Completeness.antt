@@ -2,8 +2,9 @@
 use Rattle.std.proofs.Common.{◌≡◌, ℕ, List, Option, Some, Result, IfSome, refl, subst, inl, inr, ap}
 use Rattle.pcap_reader.specs.Trace.{Record, IsTrace, Broken}
 use Rattle.pcap_reader.specs.declared.fault.PcapFault.{PcapFault}
+use Rattle.pcap_reader.specs.declared.header.Header.{Header}
 use Rattle.pcap_reader.proofs.Traces.{not_both, one_fault}
-use Rattle.mon_command.specs.Asked.{Asked, Total}
+use Rattle.mon_command.specs.Asked.{Asked, Total, Central, trace_of}
 use Rattle.mon_command.specs.Call.{Call, IsDue, IsRefused, Answers, Outcome}
 use Rattle.mon_command.specs.Complete.{IsSmooth, IsAccepted, HasTold, UnlessMemory}
 use Rattle.mon_command.specs.declared.status.Status.{Status}
@@ -18,19 +19,23 @@ at_bytes P is holds = subst (λ (told : Option (List ℕ)). IfSome told P) is ho
 
 -- accepted contents are refused for no cause
 never_refused : (asked : Asked) (call : Call) (fault : TraceFault) → IsAccepted asked call → IsRefused asked call fault → ⊥
-never_refused (Total trace) call (Pcap fault) accepted refused =
+never_refused asked call (Pcap fault) accepted refused =
     let broken = at_bytes (λ bytes. (members : List Record) × Broken bytes members fault) accepted.1 refused in
     not_both accepted.0 accepted.2.0 accepted.2.1 broken.0 fault accepted.2.2 broken.1
 
+-- told bytes with a fault are no trace
+never_trace : (asked : Asked) (call : Call) (fault : TraceFault) (header : Header) (members : List Record) → HasTold asked call fault → IfSome (call.inputs.contents (trace_of asked)) (λ bytes. IsTrace bytes header members) → ⊥
+never_trace asked call (Pcap fault) header members told trace =
+    not_both told.0 header members told.2.0 fault (at_bytes (λ bytes. IsTrace bytes header members) told.1 trace) told.2.1
+
 -- contents with a fault have no text
 never_due : (asked : Asked) (call : Call) (fault : TraceFault) (text : List ℕ) → HasTold asked call fault → IsDue asked call text → ⊥
-never_due (Total trace) call (Pcap fault) text told due =
-    let is = due.is_count in
-    not_both told.0 is.header is.members told.2.0 fault (at_bytes (λ bytes. IsTrace bytes is.header is.members) told.1 is.trace) told.2.1
+never_due (Total trace) call fault text told due = never_trace (Total trace) call fault due.is_count.header due.is_count.members told due.is_count.trace
+never_due (Central trace setting) call fault text told due = never_trace (Central trace setting) call fault due.header due.members told due.trace
 
 -- the fault is the one that is told
 same_refused : (asked : Asked) (call : Call) (fault other : TraceFault) → HasTold asked call fault → IsRefused asked call other → other ≡ fault
-same_refused (Total trace) call (Pcap fault) (Pcap other) told refused =
+same_refused asked call (Pcap fault) (Pcap other) told refused =
     let broken = at_bytes (λ bytes. (members : List Record) × Broken bytes members other) told.1 refused in
     ap (λ (f : PcapFault). Pcap f) (one_fault told.0 broken.0 told.2.0 other fault broken.1 told.2.1).1
 

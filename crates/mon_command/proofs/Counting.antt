@@ -1,17 +1,14 @@
 -- The numbers of the packets that were read.
-use Rattle.std.proofs.Common.{◌≡◌, ℕ, ◌+◌, ◌<◌, List, [], ◌∷◌, ◌++◌, length, cond, Bool, is_some, Option, Some, None, Ok, Err, IfSome, sym, ◌∙◌, ap, subst, arith, append-nil, length-append, inr}
+use Rattle.std.proofs.Common.{◌≡◌, ℕ, ◌+◌, ◌<◌, List, [], ◌∷◌, ◌++◌, length, cond, Bool, is_some, Option, Some, Ok, sym, ◌∙◌, ap, arith, length-append}
 use Rattle.std.proofs.lemmas.List.Sums.{sum_by-append}
-use Rattle.mon_io.specs.Inputs.{IsOver}
 use Rattle.flow_keys.specs.Frame.{frame_key}
 use Rattle.flow_keys.specs.declared.link.Link.{Link}
-use Rattle.pcap_reader.specs.Trace.{Record, IsTrace}
+use Rattle.pcap_reader.specs.Trace.{Record}
 use Rattle.pcap_reader.specs.Reader.{SoFar, Advanced, captured_of}
-use Rattle.pcap_reader.specs.declared.fault.PcapStop.{PcapStop}
-use Rattle.pcap_reader.specs.declared.fault.PcapStop.TheVariants.{Read, Bad, Memory}
 use Rattle.pcap_reader.specs.declared.header.Header.{Header}
 use Rattle.pcap_reader.specs.declared.packet.Packet.{Packet}
 use Rattle.pcap_reader.specs.declared.reader.PcapReader.{PcapReader}
-use Rattle.mon_command.specs.Total.{keyed_in, Counted}
+use Rattle.mon_command.specs.Total.{keyed_in}
 
 -- the numbers are those of the records that a reader has read
 pub record Counting (contents rest : Option (List ℕ)) (reader : PcapReader) (packets keyed : ℕ) : Type 0 where
@@ -19,23 +16,6 @@ pub record Counting (contents rest : Option (List ℕ)) (reader : PcapReader) (p
   pub so_far : SoFar contents rest reader members
   pub packets_is : packets ≡ length members
   pub keyed_is : keyed ≡ keyed_in reader.header members
-
--- at the end of the input the told contents are a trace of the records
-pub whole_trace : {contents : Option (List ℕ)} (now : Option (List ℕ)) {reader : PcapReader} {members : List Record} → SoFar contents now reader members → IsOver now
-    → IfSome contents (λ bytes. IsTrace bytes reader.header members)
-whole_trace None {reader} {members} so_far over =
-    subst (λ (told : Option (List ℕ)). IfSome told (λ bytes. IsTrace bytes reader.header members)) (sym so_far.took.taken) tt
-whole_trace (Some rest) {reader} {members} so_far over =
-    subst (λ (told : Option (List ℕ)). IfSome told (λ bytes. IsTrace bytes reader.header members))
-    (sym (so_far.took.taken ∙ ap (λ (l : List ℕ). Some (so_far.front ++ l)) over ∙ ap Some (append-nil so_far.front)))
-    so_far.begins
-
--- a stop of the reader is the stop of the counting
-pub counted_stop : (contents before now : Option (List ℕ)) (reader : PcapReader) (members : List Record) (stop : PcapStop) → Advanced contents now reader members (Err stop) → Counted contents before now (Err stop)
-counted_stop contents before now reader members Read left = inr left
-counted_stop None before now reader members (Bad fault) broken = tt
-counted_stop (Some bytes) before now reader members (Bad fault) broken = (members, broken)
-counted_stop contents before now reader members Memory never = tt
 
 keyed_push : (header : Header) (members : List Record) (member : Record) (b : Bool) → is_some (frame_key header.link member.captured) ≡ b
     → keyed_in header (members ++ member ∷ []) ≡ keyed_in header members + cond {A = ℕ} b 1 0

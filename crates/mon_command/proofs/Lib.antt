@@ -1,2 +1,9 @@
-pub mod Counting
+pub mod Answered
 pub mod Completeness
+pub mod Counting
+pub mod LiveCounts
+pub mod Numerals
+pub mod Packets
+pub mod Pairs
+pub mod Readings
+pub mod Scans

@@ -3,8 +3,10 @@ use Rattle.std.specs.Prelude.{◌≡◌, ◌≤◌, ℕ, List, Result, Ok, Err}
 use Rattle.mon_io.specs.Faults.{Rose}
 use Rattle.mon_io.specs.Inputs.{InputState, IsLeft}
 use Rattle.mon_io.specs.Sink.{SinkState, Grew, GrewByPart}
-use Rattle.mon_command.specs.Asked.{Asked, Total}
-use Rattle.mon_command.specs.Total.{IsTotal, IsBroken}
+use Rattle.mon_command.specs.Asked.{Asked, Total, Central, trace_of}
+use Rattle.mon_command.specs.Central.{IsCentral}
+use Rattle.mon_command.specs.Scan.{IsBroken}
+use Rattle.mon_command.specs.Total.{IsTotal}
 use Rattle.mon_command.specs.declared.status.Input.{Input}
 use Rattle.mon_command.specs.declared.status.Input.TheVariants as inputs
 use Rattle.mon_command.specs.declared.status.Status.{Status}
@@ -27,14 +29,15 @@ call_of inputs inputs_after sink sink_after =
 -- the text that is due
 abbrev pub IsDue : Asked → Call → List ℕ → Type 0
 IsDue (Total trace) call text = IsTotal (call.inputs.contents trace) text
+IsDue (Central trace setting) call text = IsCentral (call.inputs.contents trace) setting text
 
 -- why the trace is refused
 abbrev pub IsRefused : Asked → Call → TraceFault → Type 0
-IsRefused (Total trace) call (Pcap fault) = IsBroken (call.inputs.contents trace) fault
+IsRefused asked call (Pcap fault) = IsBroken (call.inputs.contents (trace_of asked)) fault
 
 -- The inputs that come before this one were read to their end, and of this one a suffix is left.
 abbrev pub ReadUpTo : Asked → Input → Call → Type 0
-ReadUpTo (Total trace) inputs.Trace call = IsLeft (call.inputs.contents trace) call.inputs.rest call.inputs_after.rest
+ReadUpTo asked inputs.Trace call = IsLeft (call.inputs.contents (trace_of asked)) call.inputs.rest call.inputs_after.rest
 
 -- nothing was appended
 abbrev pub IsSilent : Call → Type 0

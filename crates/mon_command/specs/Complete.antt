@@ -3,7 +3,7 @@ use Rattle.std.specs.Prelude.{◌≡◌, ◌⊎◌, ℕ, List, Some, Result, Ok}
 use Rattle.mon_io.specs.Faults.{Rose}
 use Rattle.pcap_reader.specs.Laws.{HasTrace}
 use Rattle.pcap_reader.specs.Trace.{Broken, Record}
-use Rattle.mon_command.specs.Asked.{Asked, Total}
+use Rattle.mon_command.specs.Asked.{Asked, trace_of}
 use Rattle.mon_command.specs.Call.{Call}
 use Rattle.mon_command.specs.declared.status.Status.{Status}
 use Rattle.mon_command.specs.declared.status.Status.TheVariants.{Memory}
@@ -19,12 +19,12 @@ pub record IsSmooth (read : Result Asked UsageFault) (asked : Asked) (call : Cal
 
 -- what is read is told and has no fault
 abbrev pub IsAccepted : Asked → Call → Type 0
-IsAccepted (Total trace) call = (bytes : List ℕ) × (call.inputs.contents trace ≡ Some bytes) × HasTrace bytes
+IsAccepted asked call = (bytes : List ℕ) × (call.inputs.contents (trace_of asked) ≡ Some bytes) × HasTrace bytes
 
 -- what is read is told and has this fault
 abbrev pub HasTold : Asked → Call → TraceFault → Type 0
-HasTold (Total trace) call (Pcap fault) =
-    (bytes : List ℕ) × (call.inputs.contents trace ≡ Some bytes) × ((members : List Record) × Broken bytes members fault)
+HasTold asked call (Pcap fault) =
+    (bytes : List ℕ) × (call.inputs.contents (trace_of asked) ≡ Some bytes) × ((members : List Record) × Broken bytes members fault)
 
 -- this status, unless memory runs out
 abbrev pub UnlessMemory : Status → Status → Type 0

@@ -1,6 +1,11 @@
 pub mod Asked
 pub mod Call
+pub mod Central
 pub mod Complete
+pub mod Live
+pub mod Options
+pub mod Scan
+pub mod Sketched
 pub mod Status
 pub mod Total
 pub mod Words

@@ -8,7 +8,8 @@ use Rattle.mon_command.specs.declared.status.Status.{Status}
 use Rattle.mon_command.specs.declared.status.Status.TheVariants.{Done, Usage, ReadFault, Trace, SinkFault, Memory}
 use Rattle.mon_command.specs.declared.status.TraceFault.TheVariants.{Pcap}
 use Rattle.mon_command.specs.declared.status.UsageFault.{UsageFault}
-use Rattle.mon_command.specs.declared.status.UsageFault.TheVariants.{NoCommand, UnknownCommand, Refused}
+use Rattle.mon_command.specs.declared.status.UsageFault.TheVariants.{NoCommand, UnknownCommand, Refused, Value}
+use Rattle.mon_command.specs.Options.{name_of}
 
 -- the number with which the program ends
 abbrev pub number_of : Status → ℕ
@@ -33,6 +34,7 @@ abbrev pub usage_line : UsageFault → List ℕ
 usage_line NoCommand = codes "univmon: usage: no command"
 usage_line UnknownCommand = codes "univmon: usage: unknown command"
 usage_line Refused = codes "univmon: usage: words refused"
+usage_line (Value option) = codes "univmon: usage: value of " ++ name_of option
 
 abbrev pub pcap_line : PcapFault → List ℕ
 pcap_line (pcap.ShortHeader at) = codes "univmon: trace: short header at " ++ decimal at

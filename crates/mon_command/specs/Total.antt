@@ -1,12 +1,8 @@
 -- The text of `total`.
-use Rattle.std.specs.Prelude.{◌≡◌, ℕ, ◌-◌, List, ◌++◌, length, count_by, is_some, Option, IfSome, Result, Ok, Err, ⊤, codes, decimal}
-use Rattle.mon_io.specs.Inputs.{IsLeft}
+use Rattle.std.specs.Prelude.{◌≡◌, ℕ, ◌-◌, List, ◌++◌, length, count_by, is_some, Option, IfSome, codes, decimal}
 use Rattle.flow_keys.specs.Frame.{frame_key}
 use Rattle.pcap_reader.specs.declared.header.Header.{Header}
-use Rattle.pcap_reader.specs.declared.fault.PcapFault.{PcapFault}
-use Rattle.pcap_reader.specs.declared.fault.PcapStop.{PcapStop}
-use Rattle.pcap_reader.specs.declared.fault.PcapStop.TheVariants.{Read, Bad, Memory}
-use Rattle.pcap_reader.specs.Trace.{Record, IsTrace, Broken}
+use Rattle.pcap_reader.specs.Trace.{Record, IsTrace}
 use Rattle.mon_command.specs.declared.total.Counts.{Counts}
 
 -- how many records have a key
@@ -32,14 +28,3 @@ pub record IsTotal (contents : Option (List ℕ)) (text : List ℕ) : Type 0 whe
   pub counts : Counts
   pub is_count : IsCount contents counts
   pub lines : text ≡ total_lines counts.packets counts.keyed
-
--- contents that come to this fault behind some records
-abbrev pub IsBroken : Option (List ℕ) → PcapFault → Type 0
-IsBroken contents fault = IfSome contents (λ bytes. (members : List Record) × Broken bytes members fault)
-
--- How counting ended: with the numbers of a trace's records, or at a stop with its cause.
-abbrev pub Counted : Option (List ℕ) → Option (List ℕ) → Option (List ℕ) → Result Counts PcapStop → Type 0
-Counted contents before now (Ok counts) = IsCount contents counts
-Counted contents before now (Err Read) = IsLeft contents before now
-Counted contents before now (Err (Bad fault)) = IsBroken contents fault
-Counted contents before now (Err Memory) = ⊤

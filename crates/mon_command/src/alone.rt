@@ -6,6 +6,7 @@ ghost use Rattle.mon_command.specs.Complete.{IsSmooth, IsAccepted, HasTold, Unle
 ghost use Rattle.mon_command.specs.declared.status.TraceFault.{TraceFault};
 
 use crate::Status;
+use crate::central::central;
 use crate::command::{Command, read_words};
 use crate::total::total;
 use mon_io::{Inputs, Sink};
@@ -50,6 +51,7 @@ fn perform<I: Inputs, K: Sink>(
 {
     match read_words(words) {
         Ok(Command::Total(trace)) => total(alloc, trace, inputs, sink),
+        Ok(Command::Central(trace, setting)) => central(alloc, trace, &setting, inputs, sink),
         Err(fault) => Status::Usage(fault),
     }
 }

@@ -2,6 +2,7 @@
 ghost use Rattle.std.specs.Prelude.{◌≡◌, IfOk, string_bytes};
 ghost use Rattle.mon_command.specs.Status.{number_of, line_of, pcap_line, usage_line};
 
+use crate::Opt;
 use mon_io::Memory;
 use pcap_reader::PcapFault;
 use std::alloc::{AllocError, Global};
@@ -32,6 +33,8 @@ pub enum UsageFault {
     UnknownCommand,
     /// The command does not take the other words.
     Refused,
+    /// The value of this option is no number that it takes.
+    Value(Opt),
 }
 
 /// What is read.
@@ -87,6 +90,10 @@ fn usage_text(alloc: Global, fault: UsageFault) -> Result<String, AllocError>
         UsageFault::NoCommand => String::from_str(alloc, "univmon: usage: no command"),
         UsageFault::UnknownCommand => String::from_str(alloc, "univmon: usage: unknown command"),
         UsageFault::Refused => String::from_str(alloc, "univmon: usage: words refused"),
+        UsageFault::Value(option) => {
+            let name = option.name();
+            format!(in alloc; "univmon: usage: value of {name}")
+        }
     }
 }
 

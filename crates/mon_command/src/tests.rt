@@ -2,7 +2,7 @@
 ghost use Rattle.std.specs.Prelude.{None};
 ghost use Rattle.mon_io.specs.MemInputs.{mem_inputs_state};
 
-use crate::{Input, Status, TraceFault, UsageFault, run_alone, status_line, status_number};
+use crate::{Input, Opt, Status, TraceFault, UsageFault, run_alone, status_line, status_number};
 use mon_io::{Fault, Inputs, MemInputs, MemSink};
 use pcap_reader::PcapFault;
 use std::alloc::{AllocError, Global};
@@ -32,6 +32,15 @@ const FRAME: [u8; 42] = [
     2, 0, 0, 0, 0, 2, 2, 0, 0, 0, 0, 1, 8, 0, 0x45, 0, 0, 0x1c, 0, 0, 0, 0, 0x40, 0x11, 0, 0, 10,
     0, 0, 1, 10, 1, 0, 2, 3, 0xe8, 0, 0x35, 0, 8, 0, 0,
 ];
+
+// The heap of `central` by default keeps all live keys.
+const CENTRAL: &str = "univmon central 1
+packets 3 keyed 3 routed 3
+sketch seed 1 levels 0 rows 1 width 16 heap all weight packets
+epoch 0 packets 3 weight 3 heaps kept
+level 0 packets 3 weight 3 keys 1 nonzero 1
+end
+";
 
 const TEXT: &str = "univmon total 1\npackets 3\nkeyed 3\nunkeyed 0\nend\n";
 
@@ -218,6 +227,15 @@ fn tells_why_nothing_was_done(rt: HostRuntime) -> Result<(), Fail> {
     for (line, read_fails, room, write_fails, status, text) in [
         ("total A", None, 48, None, Status::Done, TEXT),
         ("total A", Some(0), 48, None, read, ""),
+        ("central A", Some(5), 48, None, read, ""),
+        (
+            "central A",
+            None,
+            20,
+            None,
+            Status::SinkFault,
+            "univmon central 1\npa",
+        ),
         // The pick, the header, two pieces of the first record, the head of the second.
         ("total A", Some(5), 48, None, read, ""),
         ("total B", None, 48, None, read, ""),
@@ -264,6 +282,103 @@ fn tells_why_nothing_was_done(rt: HostRuntime) -> Result<(), Fail> {
     Ok(())
 }
 
+// The frame twice, and once with another source port.
+fn two_flows(alloc: Global) -> Result<Vec<u8>, AllocError> {
+    let mut other = FRAME;
+    other[35] = 0xe9;
+    joined(
+        alloc,
+        &[&LITTLE, &HEAD, &FRAME, &HEAD, &FRAME, &HEAD, &other],
+    )
+}
+
+#[test]
+fn sketches_one_flow(rt: HostRuntime) -> Result<(), Fail> {
+    let alloc = rt.alloc();
+    let bytes = three_frames(alloc, &LITTLE, &HEAD)?;
+    let mut inputs = inputs(alloc, bytes, None)?;
+    let mut sink = MemSink::new(alloc, 4096, Vec::new(alloc))?;
+    let line = "central A --width 16 --rows 1 --levels 0";
+    assert_eq!(rt; run(alloc, line, &mut inputs, &mut sink)?, Status::Done);
+    assert_eq!(rt; sink.bytes(), CENTRAL.as_bytes());
+    Ok(())
+}
+
+// The words, and how the text begins.
+#[test]
+fn sketches_two_flows(rt: HostRuntime) -> Result<(), Fail> {
+    let alloc = rt.alloc();
+    for (line, text) in [
+        (
+            "central A",
+            "univmon central 1
+packets 3 keyed 3 routed 3
+sketch seed 1 levels 12 rows 5 width 1024 heap all weight packets
+epoch 0 packets 3 weight 3 heaps kept
+level 0 packets 3 weight 3 keys 2 ",
+        ),
+        (
+            "central A --heap 1 --seed 7",
+            "univmon central 1
+packets 3 keyed 3 routed 3
+sketch seed 7 levels 12 rows 5 width 1024 heap 1 weight packets
+epoch 0 packets 3 weight 3 heaps dropped
+level 0 packets 3 weight 3 keys 1 ",
+        ),
+        (
+            "central A --heap 2",
+            "univmon central 1
+packets 3 keyed 3 routed 3
+sketch seed 1 levels 12 rows 5 width 1024 heap 2 weight packets
+epoch 0 packets 3 weight 3 heaps kept
+level 0 packets 3 weight 3 keys 2 ",
+        ),
+    ] {
+        let mut inputs = inputs(alloc, two_flows(alloc)?, None)?;
+        let mut sink = MemSink::new(alloc, 4096, Vec::new(alloc))?;
+        assert_eq!(rt;
+            run(alloc, line, &mut inputs, &mut sink)?,
+            Status::Done,
+            "{line}"
+        );
+        assert!(rt; sink.bytes().starts_with(text.as_bytes()), "{line}");
+    }
+    Ok(())
+}
+
+#[test]
+fn refuses_options(rt: HostRuntime) -> Result<(), Fail> {
+    let alloc = rt.alloc();
+    for (line, fault) in [
+        ("central", UsageFault::Refused),
+        ("central A --rows", UsageFault::Refused),
+        ("central A --row 1", UsageFault::Refused),
+        ("central A --rows 1 --rows 1", UsageFault::Refused),
+        ("central A --rows 2 --seed", UsageFault::Refused),
+        ("central A --rows 2", UsageFault::Value(Opt::Rows)),
+        (
+            "central A --heap 1025 --width 24",
+            UsageFault::Value(Opt::Width),
+        ),
+        ("central A --heap +1", UsageFault::Value(Opt::Heap)),
+        (
+            "central A --seed 18446744073709551616",
+            UsageFault::Value(Opt::Seed),
+        ),
+        ("central A --levels 17", UsageFault::Value(Opt::Levels)),
+    ] {
+        let mut inputs = inputs(alloc, two_flows(alloc)?, None)?;
+        let mut sink = MemSink::new(alloc, 4096, Vec::new(alloc))?;
+        assert_eq!(rt;
+            run(alloc, line, &mut inputs, &mut sink)?,
+            Status::Usage(fault),
+            "{line}"
+        );
+        assert!(rt; sink.bytes().is_empty());
+    }
+    Ok(())
+}
+
 #[test]
 fn each_status_has_its_number_and_line(rt: HostRuntime) -> Result<(), Fail> {
     let alloc = rt.alloc();
@@ -287,6 +402,11 @@ fn each_status_has_its_number_and_line(rt: HostRuntime) -> Result<(), Fail> {
             Status::Usage(UsageFault::Refused),
             2,
             "univmon: usage: words refused",
+        ),
+        (
+            Status::Usage(UsageFault::Value(Opt::Width)),
+            2,
+            "univmon: usage: value of --width",
         ),
         (
             Status::ReadFault(Input::Trace),

@@ -4,7 +4,8 @@ ghost use Rattle.pcap_reader.specs.declared.fault.PcapStop.TheVariants.{Read};
 ghost use Rattle.mon_io.specs.Faults.{Rose};
 ghost use Rattle.mon_command.specs.Asked.{Total};
 ghost use Rattle.mon_command.specs.Call.{Answers, Keeps, call_of};
-ghost use Rattle.mon_command.specs.Total.{Counted, total_lines};
+ghost use Rattle.mon_command.specs.Scan.{Scanned};
+ghost use Rattle.mon_command.specs.Total.{IsCount, total_lines};
 
 use crate::{Input, Status, TraceFault};
 use flow_keys::key_of;
@@ -46,7 +47,7 @@ pub(crate) fn total<I: Inputs, K: Sink>(
 
 // Reads the trace to its end.
 fn count<I: Inputs>(alloc: Global, trace: &str, inputs: &mut I) -> Result<Counts, PcapStop>
-    ensures counted { Counted ((I.state inputs.old).contents trace.now) (I.state inputs.old).rest (I.state inputs.new).rest result }
+    ensures counted { Scanned (IsCount ((I.state inputs.old).contents trace.now)) ((I.state inputs.old).contents trace.now) (I.state inputs.old).rest (I.state inputs.new).rest result }
     ensures stays { (I.state inputs.new).contents ≡ (I.state inputs.old).contents }
     ensures later { (I.state inputs.old).faults ≤ (I.state inputs.new).faults }
     ensures cause { IsErrOf result Read → Rose (I.state inputs.old).faults (I.state inputs.new).faults }

@@ -3,7 +3,9 @@ use Rattle.flow_keys.specs.Frame.{frame_key}
 use Rattle.pcap_reader.specs.Reader.{captured_of}
 use Rattle.pcap_reader.specs.declared.header.Header.{Header}
 use Rattle.mon_command.specs.Total.{keyed_in}
-use Rattle.mon_command.proofs.Counting.{whole_trace, counted_stop, counted_more}
+use Rattle.mon_command.specs.Total.{IsCount}
+use Rattle.mon_command.proofs.Counting.{counted_more}
+use Rattle.mon_command.proofs.Scans.{whole_trace, scanned_stop}
 use Rattle.mon_command.proofs.total.count.Goals as goal
 
 pub returns-in-Ok-None-clause-counted : goal.returns-in-Ok-None-clause-counted
@@ -20,7 +22,7 @@ returns-in-Ok-None-clause-counted g c =
 pub returns-in-Err-next-clause-counted : goal.returns-in-Err-next-clause-counted
 returns-in-Err-next-clause-counted g c =
     let counting = c.loop-packet.invariant.0 in
-    counted_stop _ _ _ c.next.new.self counting.members _ (c.in-Err-next.ensures.advances _ counting.members counting.so_far)
+    scanned_stop (IsCount ((g.I.Inputs.state c.args.inputs.now).contents c.args.trace.now)) _ _ _ c.next.new.self counting.members _ (c.in-Err-next.ensures.advances _ counting.members counting.so_far)
 
 pub loop-packet-preserved-then-is_some : goal.loop-packet-preserved-then-is_some
 loop-packet-preserved-then-is_some g c =

@@ -1,0 +1,4 @@
+pub mod Counters
+pub mod Estimate
+pub mod Row
+pub mod Shape

@@ -1,0 +1,64 @@
+//! An item added to the counters of a sketch, with its key's estimate after that.
+ghost use Rattle.std.specs.Prelude.{◌≡◌, ◌≤◌, ◌*◌, [], ◌∷◌, length, map, take, IsTrue, ◌^◌};
+ghost use Rattle.std.specs.List.{range_with_len};
+ghost use Rattle.hash_family.specs.Limits.{is_rows, is_width};
+ghost use Rattle.count_sketch.specs.Counters.{plus, counters_of, AllUpTo};
+ghost use Rattle.count_sketch.specs.Estimate.{row_estimate, estimate};
+
+use crate::middle::middle_of;
+use crate::update::update_row;
+use flow_keys::FlowKey;
+use hash_family::Family;
+
+// Adds the item to one counter in each row, and gives the key's estimate after that.
+pub(crate) fn update_and_estimate_in(
+    counters: &mut [i64],
+    rows: u8,
+    width: u16,
+    family: &Family,
+    level: u8,
+    key: &FlowKey,
+    weight: u32,
+) -> i64
+    requires level { level ≤ 16 }
+    requires rows { IsTrue (is_rows rows) }
+    requires width { IsTrue (is_width width) }
+    requires shape { length counters.old ≡ rows * width }
+    requires small { AllUpTo (2 ^ 61) counters.old }
+    ensures next { counters.new ≡ plus counters.old
+        (counters_of family.now level rows width (record { key = key.now; weight = weight } ∷ [])) }
+    ensures value { result ≡ estimate family.now level rows width counters.new key.now }
+{
+    let mut found = [0; 7];
+    update_and_fill(
+        &mut found, counters, rows, width, family, level, key, weight,
+    );
+    middle_of(&mut found[..usize::from(rows)])
+}
+
+// Adds the item to one counter in each row, and puts what each row then says of the key to the front of `found`.
+fn update_and_fill(
+    found: &mut [i64; 7],
+    counters: &mut [i64],
+    rows: u8,
+    width: u16,
+    family: &Family,
+    level: u8,
+    key: &FlowKey,
+    weight: u32,
+)
+    requires level { level ≤ 16 }
+    requires rows { IsTrue (is_rows rows) }
+    requires width { IsTrue (is_width width) }
+    requires shape { length counters.old ≡ rows * width }
+    requires small { AllUpTo (2 ^ 61) counters.old }
+    ensures next { counters.new ≡ plus counters.old
+        (counters_of family.now level rows width (record { key = key.now; weight = weight } ∷ [])) }
+    ensures found { take rows found.new
+        ≡ map (row_estimate family.now level width counters.new key.now) (range_with_len 0 rows) }
+{
+    for row in 0..rows {
+        let says = update_row(counters, row, width, family, level, key, weight);
+        found[usize::from(row)] = says;
+    }
+}

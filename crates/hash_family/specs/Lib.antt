@@ -1,0 +1,4 @@
+pub mod Hash
+pub mod Limits
+pub mod Row
+pub mod Stream

@@ -1,0 +1,22 @@
+use Rattle.std.proofs.Common.{ℕ, ◌+◌, List, length, refl, ◌∙◌, ap}
+use Rattle.std.proofs.lemmas.List.{length-replicate}
+use Rattle.mon_command.proofs.Packets.{noted_first, nothing_noted, live_first, weight_of_none}
+use Rattle.mon_command.proofs.sketching.Sketched.new.Goals as goal
+use Rattle.mon_command.proofs.sketching.Sketched.new.Goals.{then-setting-eq0+in_ok-new, else-setting-eq0}
+
+pub returns : goal.returns
+returns c = record {
+  family = c.in_ok-family.ensures;
+  shape = c.in_ok-levels.ensures.setting ∙ c.params_of.ensures;
+  holds = c.in_ok-levels.ensures.empty;
+  noted = elim c.if-setting-eq0.branch [
+    | then-setting-eq0+in_ok-new w ↦ noted_first c.args.setting.now _ _ w.all-is w.if-setting-eq0.true w.in_ok-new.ensures.top w.in_ok-new.ensures.empty
+    | else-setting-eq0 w ↦ nothing_noted c.args.setting.now _ w.all-is w.if-setting-eq0.false
+  ];
+  number = ap (λ (l : List ℕ). length l) c.in_ok-live.ensures ∙ length-replicate {A = ℕ} (c.from.result + 1) 0 ∙ ap (λ (n : ℕ). n + 1) c.from.ensures;
+  live = live_first c.args.setting.now.seed _ _ c.in_ok-live.ensures;
+  packets_is = refl;
+  keyed_is = refl;
+  weight_is = refl;
+  ones = weight_of_none c.args.setting.now.seed;
+}

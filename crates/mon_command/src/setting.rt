@@ -1,0 +1,11 @@
+//! The numbers of a sketch.
+
+/// The numbers of a sketch, each within its limits; a heap of 0 keeps every live key.
+#[derive(Clone, Copy, Debug, PartialEq, Eq)]
+pub(crate) struct Setting {
+    pub(crate) seed: u64,
+    pub(crate) levels: u8,
+    pub(crate) rows: u8,
+    pub(crate) width: u16,
+    pub(crate) heap: u16,
+}

@@ -1,0 +1,14 @@
+use Rattle.std.proofs.Common.{map, ◌∙◌, ap, List}
+use Rattle.std.proofs.lemmas.Result.{IfOk-weaker}
+use Rattle.topk_heap.specs.declared.entry.Entry.{Entry}
+use Rattle.sketch_levels.specs.Levels.{Layer}
+use Rattle.sketch_levels.proofs.Holding.{entries_held}
+use Rattle.sketch_levels.proofs.levels.Levels.keys.Goals as goal
+
+pub returns-clause-list : goal.returns-clause-list
+returns-clause-list c = IfOk-weaker c.keys.result _ _
+    (λ keys value items holds.
+    value
+    ∙ ap (λ (l : Layer). map (λ (e : Entry). e.key) l.heap.entries) c.level.ensures.value
+    ∙ ap (λ (entries : List Entry). map (λ (e : Entry). e.key) entries) (entries_held holds _ c.requires))
+    c.keys.ensures.value

@@ -1,0 +1,4 @@
+pub mod Items
+pub mod Kept
+pub mod Levels
+pub mod Noted

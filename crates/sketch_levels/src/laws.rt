@@ -1,0 +1,18 @@
+//! What one item more does to the kept keys of a level.
+ghost use Rattle.std.specs.Prelude.{◌≡◌, ℕ, true, false, List, [], ◌∷◌, ◌++◌};
+ghost use Rattle.hash_family.specs.Hash.{is_live};
+ghost use Rattle.count_sketch.specs.Counters.{Item};
+ghost use Rattle.topk_heap.specs.Ranking.{best, with_score};
+ghost use Rattle.sketch_levels.specs.Items.{live_items};
+ghost use Rattle.sketch_levels.specs.Kept.{Setting, kept, score};
+
+/// Of a list followed by an item, a level keeps the best of the keys that it kept before and the item's key, with
+/// the estimate that the item left; where the item's key isn't live there, it keeps what it kept before. No code.
+pub fn kept_keys_law()
+    ensures none { (setting : Setting) (level : ℕ) → kept setting level (live_items setting.seed level []) ≡ [] }
+    ensures live { (setting : Setting) (level : ℕ) (items : List Item) (item : Item) → is_live setting.seed level item.key ≡ true
+        → kept setting level (live_items setting.seed level (items ++ item ∷ []))
+        ≡ best setting.heap (with_score (kept setting level (live_items setting.seed level items)) item.key (score setting level (live_items setting.seed level (items ++ item ∷ [])) item.key)) }
+    ensures dead { (setting : Setting) (level : ℕ) (items : List Item) (item : Item) → is_live setting.seed level item.key ≡ false
+        → kept setting level (live_items setting.seed level (items ++ item ∷ [])) ≡ kept setting level (live_items setting.seed level items) }
+{}

@@ -1,0 +1,177 @@
+//! All levels of a sketch.
+ghost use Rattle.std.specs.Prelude.{◌≡◌, ◌+◌, ◌*◌, ◌<◌, ◌≤◌, ℕ, true, false, List, [], ◌∷◌, ◌++◌, length, map, slice_index_or, All, IfOk, unsigned_abs};
+ghost use Rattle.std.specs.Cmp.Lexicographic.{slice_cmp};
+ghost use Rattle.std.specs.Ordering.{nat_cmp};
+ghost use Rattle.std.specs.List.Sorted.{IsStrictlySortedBy};
+ghost use Rattle.hash_family.specs.Hash.{is_live};
+ghost use Rattle.count_sketch.specs.Counters.{Item, AllUpTo, counters_of};
+ghost use Rattle.count_sketch.specs.Estimate.{estimate};
+ghost use Rattle.sketch_levels.specs.Items.{live_items};
+ghost use Rattle.sketch_levels.specs.Kept.{setting_of, kept, is_dropped, score};
+ghost use Rattle.sketch_levels.specs.Levels.{Layer, IsLayer, Takes, layer_of, level_at, IsView, Holds};
+
+use crate::level::Level;
+use flow_keys::FlowKey;
+use hash_family::{Family, Params};
+use mon_io::Memory;
+use std::alloc::Global;
+use std::marker::Model;
+
+/// The levels of a sketch, from 0 up to the highest. A level samples the keys that are live at the one below;
+/// each has counters and a heap of its best keys.
+#[derive(Drop)]
+pub struct Levels {
+    params: Params,
+    family: Family,
+    weight: u64,
+    levels: Vec<Level>,
+}
+
+impl Model for Levels {
+    ghost use Rattle.std.specs.Prelude.{◌≡◌};
+    ghost use Rattle.sketch_levels.specs.Kept.{setting_of};
+    ghost use Rattle.sketch_levels.specs.Levels.{View, IsView};
+
+    ghost Value = { View };
+
+    ghost view = { λ all. record { setting = setting_of all.params; weight = all.weight; levels = all.levels.items } };
+
+    ghost invariant = { λ all. (all.family ≡ all.params.seed) × IsView (record { setting = setting_of all.params; weight = all.weight; levels = all.levels.items }) };
+}
+
+impl Levels {
+    /// Levels to which nothing was fed. No other call but `keys` takes memory.
+    pub fn new(alloc: Global, params: Params) -> Result<Levels, Memory>
+        ensures setting { IfOk result (λ all. all.setting ≡ setting_of params) }
+        ensures empty { IfOk result (λ all. Holds all []) }
+    {
+        let family = Family::new(alloc, params.seed)?;
+        let levels = empty_levels(alloc, &params)?;
+        Ok(Levels {
+            params,
+            family,
+            weight: 0,
+            levels,
+        })
+    }
+
+    /// Adds the weight to the key's counters at each level where the key is live, and then offers the key with
+    /// its new estimate to that level's heap. The weights of all calls are at most 2^44 together.
+    pub fn feed(&mut self, key: &FlowKey, weight: u32)
+        requires light { self.old.weight + weight ≤ 17592186044416 }
+        ensures list { (items : List Item) → Holds self.old items → Holds self.new (items ++ record { key = key.now; weight = weight } ∷ []) }
+        ensures setting { self.new.setting ≡ self.old.setting }
+        ensures weight { self.new.weight ≡ self.old.weight + weight }
+    {
+        feed_levels(&mut self.levels, &self.family, key, weight);
+        self.weight += u64::from(weight);
+    }
+
+    /// The estimate of a key's weight at a level, from the counters of that level.
+    pub fn estimate(&self, level: u8, key: &FlowKey) -> i64
+        requires { level ≤ self.now.setting.levels }
+        ensures value { result ≡ estimate self.now.setting.seed level self.now.setting.rows self.now.setting.width (level_at self.now level).sketch.counters key.now }
+        ensures list { (items : List Item) → Holds self.now items → result ≡ score self.now.setting level (live_items self.now.setting.seed level items) key.now }
+        ensures bound { unsigned_abs result ≤ self.now.weight }
+    {
+        self.level(level).estimate(&self.family, level, key)
+    }
+
+    /// The counters of a level, in order of row, then bucket. No absolute value is above the weight fed so far.
+    pub fn counters(&self, level: u8) -> &[i64]
+        requires { level ≤ self.now.setting.levels }
+        ensures value { result.now ≡ (level_at self.now level).sketch.counters }
+        ensures list { (items : List Item) → Holds self.now items → result.now ≡ counters_of self.now.setting.seed level self.now.setting.rows self.now.setting.width (live_items self.now.setting.seed level items) }
+        ensures shape { length result.now ≡ self.now.setting.rows * self.now.setting.width }
+        ensures bound { AllUpTo self.now.weight result.now }
+    {
+        self.level(level).counters()
+    }
+
+    /// Whether a level's heap dropped a key: whether more distinct keys that are live there were fed than it holds.
+    pub fn dropped(&self, level: u8) -> bool
+        requires { level ≤ self.now.setting.levels }
+        ensures value { result ≡ (level_at self.now level).dropped }
+        ensures list { (items : List Item) → Holds self.now items → result ≡ is_dropped self.now.setting (live_items self.now.setting.seed level items) }
+    {
+        self.level(level).dropped()
+    }
+
+    /// The keys in a level's heap, in strictly ascending order. It takes memory for them.
+    pub fn keys(&self, alloc: Global, level: u8) -> Result<Vec<FlowKey>, Memory>
+        requires { level ≤ self.now.setting.levels }
+        ensures value { IfOk result (λ keys. keys.items ≡ map (λ entry. entry.key) (level_at self.now level).heap.entries) }
+        ensures list { IfOk result (λ keys. (items : List Item) → Holds self.now items → keys.items ≡ map (λ entry. entry.key) (kept self.now.setting level (live_items self.now.setting.seed level items))) }
+        ensures ascending { IfOk result (λ keys. IsStrictlySortedBy (slice_cmp nat_cmp) keys.items) }
+        ensures few { IfOk result (λ keys. length keys.items ≤ self.now.setting.heap) }
+    {
+        self.level(level).keys(alloc)
+    }
+
+    /// The sum of the weights of all calls of `feed`, at most 2^44.
+    pub fn weight(&self) -> u64
+        ensures value { result ≡ self.now.weight }
+        ensures whole { IsView self.now }
+    {
+        self.weight
+    }
+
+    /// The numbers of the sketch.
+    pub fn params(&self) -> &Params
+        ensures value { setting_of result.now ≡ self.now.setting }
+    {
+        &self.params
+    }
+
+    // A level by its number.
+    fn level(&self, level: u8) -> &Level
+        requires { level ≤ self.now.setting.levels }
+        ensures value { result.now ≡ level_at self.now level }
+        ensures shape { IsLayer self.now.setting self.now.weight result.now }
+        ensures high { self.now.setting.levels ≤ 16 }
+    {
+        &self.levels[usize::from(level)]
+    }
+}
+
+// As many levels as the parameters say, to which nothing was fed.
+fn empty_levels(alloc: Global, params: &Params) -> Result<Vec<Level>, Memory>
+    ensures number { IfOk result (λ levels. length levels.items ≡ params.now.levels + 1) }
+    ensures empty { IfOk result (λ levels. All (λ layer. (level : ℕ) → layer ≡ layer_of (setting_of params.now) level []) levels.items) }
+    ensures shape { IfOk result (λ levels. All (IsLayer (setting_of params.now) 0) levels.items) }
+{
+    let Ok(mut levels) = Vec::with_capacity(alloc, usize::from(params.levels) + 1) else {
+        return Err(Memory);
+    };
+    for _ in 0..usize::from(params.levels) + 1 {
+        let level = Level::new(alloc, params)?;
+        if levels.push(level).is_err() {
+            return Err(Memory);
+        }
+    }
+    Ok(levels)
+}
+
+// Feeds the levels from 0 on while the key is live there.
+fn feed_levels(levels: &mut [Level], family: &Family, key: &FlowKey, weight: u32)
+    requires number { length levels.old ≤ 17 }
+    requires small { All (λ layer. AllUpTo 17592186044416 layer.sketch.counters) levels.old }
+    ensures each { (level : ℕ) (d : Layer) → level < length levels.old → Takes family.now level (record { key = key.now; weight = weight }) (slice_index_or levels.old level d) (slice_index_or levels.new level d) }
+{
+    for number in 0..levels.len() {
+        if !takes(family, number as u8, key) {
+            return;
+        }
+        levels[number].feed(family, number as u8, key, weight);
+    }
+}
+
+// Whether a level takes a key that is live at each level below it.
+#[inline]
+fn takes(family: &Family, level: u8, key: &FlowKey) -> bool
+    requires { level ≤ 16 }
+    ensures live { result ≡ true → ((below : ℕ) → below < level → is_live family.now below key.now ≡ true) → is_live family.now level key.now ≡ true }
+    ensures dead { result ≡ false → (top : ℕ) → level ≤ top → is_live family.now top key.now ≡ false }
+{
+    level == 0 || family.sample(level, key)
+}

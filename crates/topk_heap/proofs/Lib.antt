@@ -1,0 +1,6 @@
+pub mod AnswerLemmas
+pub mod Best
+pub mod Held
+pub mod Lists
+pub mod Order
+pub mod Scores

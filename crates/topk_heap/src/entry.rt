@@ -1,0 +1,27 @@
+//! A key with its score.
+ghost use Rattle.std.specs.Prelude.{◌≡◌};
+ghost use Rattle.topk_heap.specs.Ranking.{ranks_before};
+
+use flow_keys::FlowKey;
+
+/// A held key and the score of its last offer, as clauses see them.
+#[derive(Clone, Copy, Debug)]
+pub struct Entry {
+    /// The key.
+    pub key: FlowKey,
+    /// The score. A greater one is better.
+    pub score: i64,
+}
+
+impl Entry {
+    /// Whether this entry ranks before `other`: by a greater score, or by an equal one and a lesser key.
+    pub fn ranks_before(&self, other: &Entry) -> bool
+        ensures value { result ≡ ranks_before self.now other.now }
+    {
+        other
+            .score
+            .cmp(&self.score)
+            .then(self.key.cmp(&other.key))
+            .is_lt()
+    }
+}
