@@ -1,4 +1,5 @@
 pub mod Hash
 pub mod Limits
 pub mod Row
+pub mod Setting
 pub mod Stream

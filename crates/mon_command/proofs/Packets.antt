@@ -16,6 +16,7 @@ use Rattle.count_sketch.specs.Counters.{Item, counters_of}
 use Rattle.sketch_levels.specs.Items.{live_items, weight_of, distinct_keys}
 use Rattle.sketch_levels.specs.Levels.{Holds}
 use Rattle.sketch_levels.specs.Noted.{Noted, HoldsNotes, notes_of}
+use Rattle.hash_family.specs.Setting as sketch
 use Rattle.sketch_levels.specs.Kept as levels
 use Rattle.sketch_levels.proofs.Live.{live_items-live, live_items-dead, live_items-none}
 use Rattle.pcap_reader.specs.Trace.{Record}
@@ -109,7 +110,7 @@ or_true true = refl
 or_true false = refl
 
 -- one more level with its mark
-pub any_mark-more : (setting : levels.Setting) (items : List Item) (number : ℕ) → any_mark setting items (number + 1) ≡ (any_mark setting items number || levels.is_dropped setting (live_items setting.seed number items))
+pub any_mark-more : (setting : sketch.Setting) (items : List Item) (number : ℕ) → any_mark setting items (number + 1) ≡ (any_mark setting items number || levels.is_dropped setting (live_items setting.seed number items))
 any_mark-more setting items number =
     let mark = λ (level : ℕ). levels.is_dropped setting (live_items setting.seed level items) in
     ap (λ (marks : List Bool). list_any (λ (b : Bool). b) marks) (map-range_with_len_more mark 0 number number (omega arith))

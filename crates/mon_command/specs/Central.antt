@@ -5,6 +5,7 @@ use Rattle.std.specs.Ordering.{int_eq}
 use Rattle.flow_keys.specs.Frame.{frame_key}
 use Rattle.count_sketch.specs.Counters.{Item, counters_of}
 use Rattle.sketch_levels.specs.Items.{live_items, weight_of, distinct_keys}
+use Rattle.hash_family.specs.Setting as sketch
 use Rattle.sketch_levels.specs.Kept as levels
 use Rattle.pcap_reader.specs.declared.header.Header.{Header}
 use Rattle.pcap_reader.specs.Trace.{Record, IsTrace}
@@ -20,7 +21,7 @@ unfoldable pub items_of : Header → List Record → List Item
 items_of header members = filter_map (λ member. option_map item_of (frame_key header.link member.captured)) members
 
 -- the setting of the levels: where every live key is kept beside them, their heaps have one place
-abbrev pub levels_setting : Setting → levels.Setting
+abbrev pub levels_setting : Setting → sketch.Setting
 levels_setting setting = record {
   levels = setting.levels;
   rows = setting.rows;

@@ -3,6 +3,7 @@ use Rattle.std.specs.Prelude.{◌≡◌, ℕ, ◌+◌, ◌<◌, ◌≤◌, ◌==
 use Rattle.std.specs.List.{list_any, range_with_len}
 use Rattle.count_sketch.specs.Counters.{Item}
 use Rattle.sketch_levels.specs.Items.{live_items, weight_of}
+use Rattle.hash_family.specs.Setting as sketch
 use Rattle.sketch_levels.specs.Kept as levels
 use Rattle.sketch_levels.specs.Levels.{Holds}
 use Rattle.sketch_levels.specs.Noted.{Noted, HoldsNotes, notes_of}
@@ -52,7 +53,7 @@ IsTopOf levels None = ⊤
 IsTopOf levels (Some noted) = noted.top ≡ levels
 
 -- one of so many levels has a mark
-abbrev pub any_mark : levels.Setting → List Item → ℕ → Bool
+abbrev pub any_mark : sketch.Setting → List Item → ℕ → Bool
 any_mark setting items number = list_any (λ mark. mark) (map (λ level. levels.is_dropped setting (live_items setting.seed level items)) (range_with_len 0 number))
 
 -- the numbers of so many packets and these items

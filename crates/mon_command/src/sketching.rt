@@ -3,7 +3,7 @@ ghost use Rattle.std.specs.Prelude.{◌≡◌, ◌<◌, ◌≤◌, ◌+◌, ◌+
 ghost use Rattle.count_sketch.specs.Counters.{Item};
 ghost use Rattle.mon_command.specs.Options.{is_setting};
 ghost use Rattle.mon_command.specs.Central.{levels_setting, nonzero};
-ghost use Rattle.sketch_levels.specs.Kept.{setting_of};
+ghost use Rattle.hash_family.specs.Setting.{setting_of};
 
 use crate::live::count_live;
 use crate::setting::Setting;

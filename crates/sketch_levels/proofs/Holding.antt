@@ -1,11 +1,12 @@
 -- Levels that hold a list of items, and one item more.
-use Rattle.std.proofs.Common.{◌≡◌, ℕ, ℤ, ◌+◌, ◌<◌, ◌≤◌, List, [], ◌∷◌, ◌++◌, length, get_or, refl, sym, ◌∙◌, ap, arith}
+use Rattle.std.proofs.Common.{◌^◌, ◌≡◌, ℕ, ℤ, ◌+◌, ◌<◌, ◌≤◌, List, [], ◌∷◌, ◌++◌, length, get_or, refl, sym, ◌∙◌, ap, arith}
 use Rattle.std.specs.List.{All}
 use Rattle.std.proofs.lemmas.List.Sums.{sum_by-append}
 use Rattle.count_sketch.specs.Counters.{Item, counters_of}
 use Rattle.count_sketch.specs.Estimate.{estimate}
 use Rattle.sketch_levels.specs.Items.{live_items, weight_of}
-use Rattle.sketch_levels.specs.Kept.{Setting, is_dropped, kept, score}
+use Rattle.hash_family.specs.Setting.{Setting}
+use Rattle.sketch_levels.specs.Kept.{is_dropped, kept, score}
 use Rattle.sketch_levels.specs.Levels.{Holds, IsView, Layer, Takes, View, layer_of, level_at, no_layer}
 use Rattle.sketch_levels.proofs.Live.{live_items-none}
 
@@ -32,7 +33,7 @@ Holds-fed item old new items fed holds = record {
 }
 
 -- the shape stays
-pub IsView-fed : (item : Item) (old new : View) → IsFed item old new → old.weight + item.weight ≤ 17592186044416 → IsView old → IsView new
+pub IsView-fed : (item : Item) (old new : View) → IsFed item old new → old.weight + item.weight ≤ 2 ^ 44 → IsView old → IsView new
 IsView-fed item old new fed light whole = record {
   within = rw fed.setting whole.within;
   number = fed.number ∙ whole.number ∙ ap (λ (s : Setting). s.levels + 1) (sym fed.setting);

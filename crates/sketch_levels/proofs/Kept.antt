@@ -10,7 +10,8 @@ use Rattle.topk_heap.specs.declared.entry.Entry.{Entry}
 use Rattle.topk_heap.proofs.Best.{IsAscending-best, best_of_few}
 use Rattle.topk_heap.proofs.Scores.{IsAscending-with_score}
 use Rattle.sketch_levels.specs.Items.{distinct, distinct_keys, with_key}
-use Rattle.sketch_levels.specs.Kept.{Setting, is_dropped, kept, kept_back, score}
+use Rattle.hash_family.specs.Setting.{Setting}
+use Rattle.sketch_levels.specs.Kept.{is_dropped, kept, kept_back, score}
 use Rattle.sketch_levels.proofs.Distinct.{distinct_keys-push, keys-with_score, keys_of, length-with_key}
 
 reverse-push : (items : List Item) (item : Item) → reverse (items ++ item ∷ []) ≡ item ∷ reverse items

@@ -7,7 +7,8 @@ use Rattle.count_sketch.specs.Estimate.{estimate}
 use Rattle.topk_heap.specs.Ranking.{best, with_score}
 use Rattle.topk_heap.specs.Table.{Table}
 use Rattle.topk_heap.specs.declared.entry.Entry.{Entry}
-use Rattle.sketch_levels.specs.Kept.{Setting, is_dropped, kept, score}
+use Rattle.hash_family.specs.Setting.{Setting}
+use Rattle.sketch_levels.specs.Kept.{is_dropped, kept, score}
 use Rattle.sketch_levels.specs.Levels.{Layer, layer_of, IsLayer}
 use Rattle.sketch_levels.proofs.Kept.{is_dropped-none, is_dropped-push, kept-none, kept-push}
 

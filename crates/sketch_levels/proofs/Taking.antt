@@ -4,7 +4,7 @@ use Rattle.hash_family.specs.Hash.{is_live}
 use Rattle.count_sketch.specs.Counters.{Item}
 use Rattle.count_sketch.proofs.Shares.{AllUpTo-more}
 use Rattle.sketch_levels.specs.Items.{live_items}
-use Rattle.sketch_levels.specs.Kept.{Setting}
+use Rattle.hash_family.specs.Setting.{Setting}
 use Rattle.sketch_levels.specs.Levels.{IsLayer, Layer, Takes, layer_of}
 use Rattle.sketch_levels.proofs.Live.{live_items-dead, live_items-live}
 

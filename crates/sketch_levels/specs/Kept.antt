@@ -4,20 +4,8 @@ use Rattle.count_sketch.specs.Counters.{Item, counters_of}
 use Rattle.count_sketch.specs.Estimate.{estimate}
 use Rattle.topk_heap.specs.Ranking.{best, with_score}
 use Rattle.topk_heap.specs.declared.entry.Entry.{Entry}
-use Rattle.hash_family.specs.declared.params.Params.{Params}
+use Rattle.hash_family.specs.Setting.{Setting}
 use Rattle.sketch_levels.specs.Items.{distinct_keys}
-
--- the numbers of a sketch: its highest level, rows and width of each level, keys in a level's heap, and seed
-pub record Setting : Type 0 where
-  pub levels : ℕ
-  pub rows : ℕ
-  pub width : ℕ
-  pub heap : ℕ
-  pub seed : ℕ
-
-abbrev pub setting_of : Params → Setting
-setting_of params =
-    record { levels = params.levels; rows = params.rows; width = params.width; heap = params.heap; seed = params.seed }
 
 -- the estimate of a key at a level, in the counters of the items that are live there
 unfoldable pub score : Setting → ℕ → List Item → List ℕ → ℤ

@@ -1,10 +1,11 @@
 -- What clauses see of the levels of a sketch, and of which list of items they are.
-use Rattle.std.specs.Prelude.{◌≡◌, ℕ, ◌+◌, ◌≤◌, Bool, false, List, [], ◌∷◌, ◌++◌, length, slice_index_or, All, IsTrue}
+use Rattle.std.specs.Prelude.{◌^◌, ◌≡◌, ℕ, ◌+◌, ◌≤◌, Bool, false, List, [], ◌∷◌, ◌++◌, length, slice_index_or, All, IsTrue}
 use Rattle.hash_family.specs.Limits.{are_within}
 use Rattle.count_sketch.specs.Counters.{Item, Grid, grid_of, AllUpTo}
 use Rattle.topk_heap.specs.Table.{Table}
 use Rattle.sketch_levels.specs.Items.{live_items, weight_of}
-use Rattle.sketch_levels.specs.Kept.{Setting, kept, is_dropped}
+use Rattle.hash_family.specs.Setting.{Setting}
+use Rattle.sketch_levels.specs.Kept.{kept, is_dropped}
 
 -- one level: its counters, its heap, and whether the heap dropped a key
 pub record Layer : Type 0 where
@@ -53,7 +54,7 @@ pub record Takes (seed level : ℕ) (item : Item) (old new : Layer) : Type 0 whe
 pub record IsView (view : View) : Type 0 where
   pub within : IsTrue (are_within view.setting.levels view.setting.rows view.setting.width view.setting.heap)
   pub number : length view.levels ≡ view.setting.levels + 1
-  pub light : view.weight ≤ 17592186044416
+  pub light : view.weight ≤ 2 ^ 44
   pub each : All (IsLayer view.setting view.weight) view.levels
 
 -- the levels are those of a list of items: each one is that of the items that are live there

@@ -4,7 +4,8 @@ ghost use Rattle.hash_family.specs.Hash.{is_live};
 ghost use Rattle.count_sketch.specs.Counters.{Item};
 ghost use Rattle.topk_heap.specs.Ranking.{best, with_score};
 ghost use Rattle.sketch_levels.specs.Items.{live_items};
-ghost use Rattle.sketch_levels.specs.Kept.{Setting, kept, score};
+ghost use Rattle.hash_family.specs.Setting.{Setting};
+ghost use Rattle.sketch_levels.specs.Kept.{kept, score};
 
 /// Of a list followed by an item, a level keeps the best of the keys that it kept before and the item's key, with
 /// the estimate that the item left; where the item's key isn't live there, it keeps what it kept before. No code.

@@ -1,5 +1,5 @@
 //! One level of a sketch.
-ghost use Rattle.std.specs.Prelude.{◌≡◌, ◌+◌, ◌*◌, ◌≤◌, ℕ, List, [], ◌∷◌, ◌++◌, nat_lt, length, map, IfOk, IsTrue, unsigned_abs};
+ghost use Rattle.std.specs.Prelude.{◌^◌, ◌≡◌, ◌+◌, ◌*◌, ◌≤◌, ℕ, List, [], ◌∷◌, ◌++◌, nat_lt, length, map, IfOk, IsTrue, unsigned_abs};
 ghost use Rattle.std.specs.Cmp.Lexicographic.{slice_cmp};
 ghost use Rattle.std.specs.Ordering.{nat_cmp};
 ghost use Rattle.std.specs.List.Sorted.{IsStrictlySortedBy};
@@ -7,7 +7,7 @@ ghost use Rattle.hash_family.specs.Limits.{are_within};
 ghost use Rattle.count_sketch.specs.Counters.{Item, AllUpTo};
 ghost use Rattle.count_sketch.specs.Estimate.{estimate};
 ghost use Rattle.topk_heap.specs.Ranking.{best, with_score};
-ghost use Rattle.sketch_levels.specs.Kept.{Setting, setting_of};
+ghost use Rattle.hash_family.specs.Setting.{Setting, setting_of};
 ghost use Rattle.sketch_levels.specs.Levels.{IsLayer, layer_of};
 
 use count_sketch::Sketch;
@@ -54,7 +54,7 @@ impl Level {
     #[inline]
     pub(crate) fn feed(&mut self, family: &Family, number: u8, key: &FlowKey, weight: u32)
         requires number { number ≤ 16 }
-        requires small { AllUpTo 17592186044416 self.old.sketch.counters }
+        requires small { AllUpTo (2 ^ 44) self.old.sketch.counters }
         ensures list { (setting : Setting) (items : List Item) → setting.seed ≡ family.now → self.old ≡ layer_of setting number items → self.new ≡ layer_of setting number (items ++ record { key = key.now; weight = weight } ∷ []) }
         ensures shape { (setting : Setting) (n : ℕ) → IsLayer setting n self.old → IsLayer setting (n + weight) self.new }
     {

@@ -1,5 +1,5 @@
 //! All levels of a sketch.
-ghost use Rattle.std.specs.Prelude.{◌≡◌, ◌+◌, ◌*◌, ◌<◌, ◌≤◌, ℕ, true, false, List, [], ◌∷◌, ◌++◌, length, map, slice_index_or, All, IfOk, unsigned_abs};
+ghost use Rattle.std.specs.Prelude.{◌^◌, ◌≡◌, ◌+◌, ◌*◌, ◌<◌, ◌≤◌, ℕ, true, false, List, [], ◌∷◌, ◌++◌, length, map, slice_index_or, All, IfOk, unsigned_abs};
 ghost use Rattle.std.specs.Cmp.Lexicographic.{slice_cmp};
 ghost use Rattle.std.specs.Ordering.{nat_cmp};
 ghost use Rattle.std.specs.List.Sorted.{IsStrictlySortedBy};
@@ -7,7 +7,8 @@ ghost use Rattle.hash_family.specs.Hash.{is_live};
 ghost use Rattle.count_sketch.specs.Counters.{Item, AllUpTo, counters_of};
 ghost use Rattle.count_sketch.specs.Estimate.{estimate};
 ghost use Rattle.sketch_levels.specs.Items.{live_items};
-ghost use Rattle.sketch_levels.specs.Kept.{setting_of, kept, is_dropped, score};
+ghost use Rattle.hash_family.specs.Setting.{setting_of};
+ghost use Rattle.sketch_levels.specs.Kept.{kept, is_dropped, score};
 ghost use Rattle.sketch_levels.specs.Levels.{Layer, IsLayer, Takes, layer_of, level_at, IsView, Holds};
 
 use crate::level::Level;
@@ -29,7 +30,7 @@ pub struct Levels {
 
 impl Model for Levels {
     ghost use Rattle.std.specs.Prelude.{◌≡◌};
-    ghost use Rattle.sketch_levels.specs.Kept.{setting_of};
+    ghost use Rattle.hash_family.specs.Setting.{setting_of};
     ghost use Rattle.sketch_levels.specs.Levels.{View, IsView};
 
     ghost Value = { View };
@@ -58,7 +59,7 @@ impl Levels {
     /// Adds the weight to the key's counters at each level where the key is live, and then offers the key with
     /// its new estimate to that level's heap. The weights of all calls are at most 2^44 together.
     pub fn feed(&mut self, key: &FlowKey, weight: u32)
-        requires light { self.old.weight + weight ≤ 17592186044416 }
+        requires light { self.old.weight + weight ≤ 2 ^ 44 }
         ensures list { (items : List Item) → Holds self.old items → Holds self.new (items ++ record { key = key.now; weight = weight } ∷ []) }
         ensures setting { self.new.setting ≡ self.old.setting }
         ensures weight { self.new.weight ≡ self.old.weight + weight }
@@ -155,7 +156,7 @@ fn empty_levels(alloc: Global, params: &Params) -> Result<Vec<Level>, Memory>
 // Feeds the levels from 0 on while the key is live there.
 fn feed_levels(levels: &mut [Level], family: &Family, key: &FlowKey, weight: u32)
     requires number { length levels.old ≤ 17 }
-    requires small { All (λ layer. AllUpTo 17592186044416 layer.sketch.counters) levels.old }
+    requires small { All (λ layer. AllUpTo (2 ^ 44) layer.sketch.counters) levels.old }
     ensures each { (level : ℕ) (d : Layer) → level < length levels.old → Takes family.now level (record { key = key.now; weight = weight }) (slice_index_or levels.old level d) (slice_index_or levels.new level d) }
 {
     for number in 0..levels.len() {

@@ -1,6 +1,6 @@
 use Rattle.std.proofs.Common.{◌≡◌, ℕ, [], ◌∷◌, ◌++◌, arith, rules, length-append}
 use Rattle.std.proofs.lemmas.List.Elements.{All-push}
-use Rattle.sketch_levels.specs.Kept.{setting_of}
+use Rattle.hash_family.specs.Setting.{setting_of}
 use Rattle.sketch_levels.specs.Levels.{Layer, IsLayer, layer_of}
 use Rattle.sketch_levels.proofs.levels.empty_levels.Goals as goal
 

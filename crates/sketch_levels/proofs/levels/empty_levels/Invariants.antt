@@ -1,6 +1,6 @@
 use Rattle.std.proofs.Common.{◌≡◌, ℕ, [], length}
 use Rattle.std.specs.List.{All}
-use Rattle.sketch_levels.specs.Kept.{setting_of}
+use Rattle.hash_family.specs.Setting.{setting_of}
 use Rattle.sketch_levels.specs.Levels.{IsLayer, layer_of}
 use Rattle.sketch_levels.proofs.levels.empty_levels.Given as goal
 

@@ -1,4 +1,4 @@
-use Rattle.std.proofs.Common.{◌≡◌, ℕ, true, inl, inr, below_more, get_or, set, sym, ◌∙◌, subst, arith}
+use Rattle.std.proofs.Common.{◌^◌, ◌≡◌, ℕ, true, inl, inr, below_more, get_or, set, sym, ◌∙◌, subst, arith}
 use Rattle.std.proofs.lemmas.Bool.{cases_lt}
 use Rattle.std.proofs.lemmas.List.{get_or_default, get_or-set_other, get_or-set_same}
 use Rattle.hash_family.specs.Hash.{is_live}
@@ -49,6 +49,6 @@ loop-number-preserved c = record {
 pub feed-requires-clause-small : goal.feed-requires-clause-small
 feed-requires-clause-small c =
     let d = c.index-levels-number.result in
-    subst (λ (layer : Layer). AllUpTo 17592186044416 layer.sketch.counters)
+    subst (λ (layer : Layer). AllUpTo (2 ^ 44) layer.sketch.counters)
     (sym (c.loop-number.invariant.rest c.loop-number.number d (omega arith)))
     (c.requires.small c.loop-number.number d c.loop-number-test.true)

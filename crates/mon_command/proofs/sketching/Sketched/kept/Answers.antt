@@ -2,6 +2,7 @@ use Rattle.std.proofs.Common.{rules, ◌≡◌, ℕ, List, length, Vec, ◌∙�
 use Rattle.std.proofs.lemmas.List.{length-map}
 use Rattle.std.specs.declared.alloc.Global.{Global}
 use Rattle.flow_keys.specs.declared.key.FlowKey.{FlowKey}
+use Rattle.hash_family.specs.Setting as sketch
 use Rattle.sketch_levels.specs.Kept as levels
 use Rattle.sketch_levels.specs.Items.{live_items}
 use Rattle.mon_command.proofs.Packets.{kept_all, kept_heap, noted_some, noted_nothing}
@@ -23,6 +24,6 @@ returns c =
           size ∙ ap (λ (keys : Vec FlowKey Global). length keys.items) w.keys-is
           ∙ ap (λ (keys : List (List ℕ)). length keys) (w.in_ok-keys-in-None.ensures.list items sketches.holds)
           ∙ length-map _ _
-          ∙ ap (λ (s : levels.Setting). length (levels.kept s c.args.level (live_items s.seed c.args.level items))) sketches.shape
+          ∙ ap (λ (s : sketch.Setting). length (levels.kept s c.args.level (live_items s.seed c.args.level items))) sketches.shape
           ∙ kept_heap setting c.args.level (live_items setting.seed c.args.level items) none
     ]

@@ -1,7 +1,7 @@
 use Rattle.std.proofs.Common.{ℤ, List, sym, ◌∙◌, ap}
 use Rattle.count_sketch.specs.Counters.{counters_of}
 use Rattle.sketch_levels.specs.Items.{live_items}
-use Rattle.sketch_levels.specs.Kept as levels
+use Rattle.hash_family.specs.Setting as sketch
 use Rattle.mon_command.specs.Central.{nonzero}
 use Rattle.mon_command.proofs.Packets.{level_count_is, read_at}
 use Rattle.mon_command.proofs.sketching.Sketched.level_count.Goals as goal
@@ -15,4 +15,4 @@ returns c = λ setting packets items sketches.
     (c.in_ok-keys.ensures setting packets items sketches)
     (c.nonzero.ensures
     ∙ ap (λ (counters : List ℤ). nonzero counters) (c.counters.ensures.list items sketches.holds)
-    ∙ ap (λ (s : levels.Setting). nonzero (counters_of s.seed level s.rows s.width (live_items s.seed level items))) sketches.shape)
+    ∙ ap (λ (s : sketch.Setting). nonzero (counters_of s.seed level s.rows s.width (live_items s.seed level items))) sketches.shape)

@@ -1,5 +1,5 @@
 use Rattle.std.proofs.Common.{◌+◌, ◌&&◌, Bool, true, false, sym, ◌∙◌, ap}
-use Rattle.sketch_levels.specs.Kept as levels
+use Rattle.hash_family.specs.Setting as sketch
 use Rattle.mon_command.specs.Central.{levels_setting}
 use Rattle.mon_command.specs.Sketched.{any_mark}
 use Rattle.mon_command.proofs.Packets.{drops_is, not_some}
@@ -17,7 +17,7 @@ returns c = λ packets items sketches.
       dropped_is = elim c.if-is_none.branch [
         | then-is_none w ↦
             w.dropped-is ∙ w.any_dropped-dropped.ensures items sketches.holds
-            ∙ ap (λ (s : levels.Setting). any_mark s items (setting.levels + 1)) sketches.shape
+            ∙ ap (λ (s : sketch.Setting). any_mark s items (setting.levels + 1)) sketches.shape
             ∙ ap (λ (b : Bool). b && mark) (sym (not_some _ _ true c.is_none.ensures w.if-is_none.true))
             ∙ all
         | else-is_none w ↦

@@ -1,5 +1,5 @@
 use Rattle.std.proofs.Common.{ℕ}
-use Rattle.sketch_levels.specs.Kept.{setting_of}
+use Rattle.hash_family.specs.Setting.{setting_of}
 use Rattle.sketch_levels.proofs.Layers.{layer_of-none}
 use Rattle.sketch_levels.proofs.level.Level.new.Goals as goal
 

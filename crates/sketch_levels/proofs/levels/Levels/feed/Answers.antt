@@ -2,7 +2,7 @@ use Rattle.std.proofs.Common.{◌≡◌, ◌+◌, length, refl, sym, ◌∙◌, 
 use Rattle.std.proofs.lemmas.List.{with_items_is}
 use Rattle.std.specs.Vec.{with_items}
 use Rattle.count_sketch.specs.Counters.{Item}
-use Rattle.sketch_levels.specs.Kept.{setting_of}
+use Rattle.hash_family.specs.Setting.{setting_of}
 use Rattle.sketch_levels.specs.Levels.{Holds, View}
 use Rattle.sketch_levels.proofs.Holding.{Holds-fed, IsFed, IsView-fed}
 use Rattle.sketch_levels.proofs.levels.Levels.feed.Goals as goal
