@@ -16,6 +16,9 @@ mod key;
 mod link;
 mod numbers;
 mod packet;
+mod prefix;
+mod prefix_fault;
+mod side;
 #[cfg(test)]
 mod tests;
 mod text;
@@ -23,4 +26,7 @@ mod text;
 pub use frame::key_of;
 pub use key::FlowKey;
 pub use link::Link;
+pub use prefix::Prefix;
+pub use prefix_fault::PrefixFault;
+pub use side::Side;
 pub use text::{KeyText, key_text, one_text_one_key};
