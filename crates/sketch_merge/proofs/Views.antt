@@ -28,6 +28,9 @@ AllUpTo-more n m counters more small = record {
   each = All-weaker (λ (x : ℤ). unsigned_abs x ≤ n) (λ (x : ℤ). unsigned_abs x ≤ m) (λ x below. omega (arith, below)) counters small.each;
 }
 
+pub AllUpTo-more_each : (n m : ℕ) (levels : List (List ℤ)) → n ≤ m → All (AllUpTo n) levels → All (AllUpTo m) levels
+AllUpTo-more_each n m levels more small = All-weaker (AllUpTo n) (AllUpTo m) (λ level all. AllUpTo-more n m level more all) levels small
+
 -- of levels that are cut from a list of counters
 pub IsView-levels : (view : View) (counters : List ℤ) → IsTrue (are_within view.setting.levels view.setting.rows view.setting.width view.setting.heap) → view.counters ≡ levels_of (view.setting.levels + 1) (view.setting.rows * view.setting.width) counters → length counters ≡ (view.setting.levels + 1) * (view.setting.rows * view.setting.width) → AllUpTo view.weight counters → view.weight ≤ 2 ^ 44 → length view.keys ≡ view.setting.levels + 1 → All (IsStrictlySortedBy (slice_cmp nat_cmp)) view.keys → IsView view
 IsView-levels view counters within cut whole small light key_levels ascending =
@@ -39,7 +42,7 @@ IsView-levels view counters within cut whole small light key_levels ascending =
       key_levels = key_levels;
       shape = subst (All (λ (level : List ℤ). length level ≡ size)) (sym cut) (shape-levels_of levels size counters whole);
       small = subst (All (AllUpTo (2 ^ 45))) (sym cut)
-          (All-weaker (AllUpTo view.weight) (AllUpTo (2 ^ 45)) (λ level all. AllUpTo-more view.weight (2 ^ 45) level (omega arith) all) (levels_of levels size counters) bound);
+          (AllUpTo-more_each view.weight (2 ^ 45) (levels_of levels size counters) (omega arith) bound);
       ascending = ascending;
     }
 

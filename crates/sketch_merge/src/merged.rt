@@ -67,6 +67,7 @@ impl Merged {
             → flat_map (λ part. part) parts ≡ counters.items → merged.counters ≡ parts) }
         ensures joined { IfOk result (λ merged. flat_map (λ level. level) merged.counters ≡ counters.items) }
         ensures bound { IfOk result (λ merged. All (AllUpTo weight) merged.counters) }
+        ensures small { IfOk result (λ merged. All (AllUpTo (2 ^ 44)) merged.counters) }
     {
         let size = usize::from(params.rows) * usize::from(params.width);
         let counters = levels_of(alloc, &counters, usize::from(params.levels) + 1, size)?;

@@ -1,4 +1,4 @@
-use Rattle.std.proofs.Common.{◌≡◌, ℕ, ℤ, ◌+◌, ◌*◌, List, Vec, Global, length, map, sym, ◌∙◌, ap, subst}
+use Rattle.std.proofs.Common.{◌≡◌, ◌^◌, ℕ, ℤ, ◌+◌, ◌*◌, List, Vec, Global, length, map, sym, ◌∙◌, ap, subst}
 use Rattle.std.specs.Cmp.Lexicographic.{slice_cmp}
 use Rattle.std.specs.List.{All, flat_map}
 use Rattle.std.specs.List.Sorted.{IsStrictlySortedBy}
@@ -8,7 +8,7 @@ use Rattle.std.proofs.lemmas.List.Elements.{All-map}
 use Rattle.count_sketch.specs.Counters.{AllUpTo}
 use Rattle.sketch_merge.specs.Levels.{levels_of}
 use Rattle.sketch_merge.proofs.LevelLists.{bound-levels_of, joined-levels_of, parts-levels_of}
-use Rattle.sketch_merge.proofs.Views.{IsView-levels, some_counters}
+use Rattle.sketch_merge.proofs.Views.{AllUpTo-more_each, IsView-levels, some_counters}
 use Rattle.sketch_merge.proofs.merged.Merged.from_levels.Goals as goal
 
 abbrev view : Vec ℤ Global → List ℤ
@@ -42,8 +42,14 @@ returns-clause-joined c =
     let size : ℕ = c.args.params.rows * c.args.params.width in
     ap (λ (all : List (List ℤ)). flat_map (λ level. level) all) (cut c) ∙ joined-levels_of levels size c.args.counters.items c.requires.shape
 
-pub returns-clause-bound : goal.returns-clause-bound
-returns-clause-bound c =
+bound : (c : goal.After-drop-counters-2) → All (AllUpTo c.args.weight) (map view c.in_ok-counters.counters.items)
+bound c =
     let levels : ℕ = c.args.params.levels + 1 in
     let size : ℕ = c.args.params.rows * c.args.params.width in
     subst (All (AllUpTo c.args.weight)) (sym (cut c)) (bound-levels_of c.args.weight levels size c.args.counters.items c.requires.small)
+
+pub returns-clause-bound : goal.returns-clause-bound
+returns-clause-bound c = bound c
+
+pub returns-clause-small : goal.returns-clause-small
+returns-clause-small c = AllUpTo-more_each c.args.weight (2 ^ 44) _ c.requires.light (bound c)
