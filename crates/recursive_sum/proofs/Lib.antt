@@ -1,0 +1,4 @@
+pub mod Descent
+pub mod Great
+pub mod Ranks
+pub mod Sums
