@@ -1,5 +1,5 @@
 -- What merged sketches are: of their levels, and of two of them.
-use Rattle.std.proofs.Common.{◌≡◌, ◌^◌, ℕ, ℤ, ◌+◌, ◌*◌, ◌<◌, ◌≤◌, List, length, unsigned_abs, ◌-ℤ◌, sym, ◌∙◌, ap, subst, arith}
+use Rattle.std.proofs.Common.{◌≡◌, ◌^◌, ℕ, ℤ, ◌+◌, ◌*◌, ◌<◌, ◌≤◌, List, length, ◌-ℤ◌, sym, ◌∙◌, ap, subst, arith}
 use Rattle.std.specs.Bool.{IsTrue}
 use Rattle.std.specs.List.{All}
 use Rattle.std.specs.Cmp.Lexicographic.{slice_cmp}
@@ -12,6 +12,7 @@ use Rattle.std.proofs.lemmas.Simd.{length-zip2}
 use Rattle.hash_family.specs.Setting.{Setting}
 use Rattle.hash_family.specs.Limits.{are_within}
 use Rattle.count_sketch.specs.Counters.{AllUpTo, minus}
+use Rattle.count_sketch.proofs.Shares.{AllUpTo-more}
 use Rattle.sketch_merge.specs.Levels.{levels_of}
 use Rattle.sketch_merge.specs.Merged.{HaveUpTo, IsView, View, united}
 use Rattle.sketch_merge.proofs.LevelLists.{bound-levels_of, length-levels_of, shape-levels_of}
@@ -22,12 +23,11 @@ use Rattle.sketch_merge.proofs.Zipped.{All-zip2, small-minus}
 pub some_counters : (levels rows width heap : ℕ) → IsTrue (are_within levels rows width heap) → 0 < rows * width
 some_counters levels rows width heap within = grind (arith, nat_tests)
 
--- a greater bound
-pub AllUpTo-more : (n m : ℕ) (counters : List ℤ) → n ≤ m → AllUpTo n counters → AllUpTo m counters
-AllUpTo-more n m counters more small = record {
-  each = All-weaker (λ (x : ℤ). unsigned_abs x ≤ n) (λ (x : ℤ). unsigned_abs x ≤ m) (λ x below. omega (arith, below)) counters small.each;
-}
+-- and at most as many as seven rows of 2,048
+pub few_counters : (levels rows width heap : ℕ) → IsTrue (are_within levels rows width heap) → rows * width ≤ 14336
+few_counters levels rows width heap within = grind (arith, nat_tests)
 
+-- a greater bound of each level
 pub AllUpTo-more_each : (n m : ℕ) (levels : List (List ℤ)) → n ≤ m → All (AllUpTo n) levels → All (AllUpTo m) levels
 AllUpTo-more_each n m levels more small = All-weaker (AllUpTo n) (AllUpTo m) (λ level all. AllUpTo-more n m level more all) levels small
 

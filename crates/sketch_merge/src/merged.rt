@@ -106,6 +106,7 @@ impl Merged {
         requires { level ≤ self.now.setting.levels }
         ensures value { result.now ≡ counters_at self.now level }
         ensures shape { length result.now ≡ self.now.setting.rows * self.now.setting.width }
+        ensures few { length result.now ≤ 14336 }
         ensures bound { AllUpTo (2 ^ 45) result.now }
     {
         &self.counters[usize::from(level)]

@@ -1,7 +1,8 @@
-use Rattle.std.proofs.Common.{◌≡◌, ◌^◌, ℕ, ℤ, ◌+◌, ◌*◌, ◌<◌, [], List, Vec, Global, length, map, get_or, sym, ◌∙◌, ap, subst, arith}
+use Rattle.std.proofs.Common.{◌≡◌, ◌^◌, ℕ, ℤ, ◌+◌, ◌*◌, ◌<◌, ◌≤◌, [], List, Vec, Global, length, map, get_or, sym, ◌∙◌, ap, subst, arith}
 use Rattle.std.proofs.lemmas.List.{length-map}
 use Rattle.count_sketch.specs.Counters.{AllUpTo}
 use Rattle.sketch_merge.specs.Merged.{View, counters_at}
+use Rattle.sketch_merge.proofs.Views.{few_counters}
 use Rattle.sketch_merge.proofs.Zipped.{seen_all, seen_at}
 use Rattle.sketch_merge.proofs.merged.Merged.counters.Goals as goal
 
@@ -29,6 +30,16 @@ returns-clause-shape c =
     ap length c.deref.ensures.value
     ∙ seen_all (λ (level : List ℤ). length level ≡ size) view c.self.inside.counters.items c.from.result c.index.result.now (within c) c.index.ensures c.self.invariant.shape
     ∙ ap (λ (v : View). v.setting.rows * v.setting.width) c.self.view_is
+
+pub returns-clause-few : goal.returns-clause-few
+returns-clause-few c =
+    let params = c.self.inside.params in
+    let size = params.rows * params.width in
+    let few : size ≤ 14336 = few_counters params.levels params.rows params.width params.heap c.self.invariant.within in
+    let shape : length c.deref.result.now ≡ size =
+    ap length c.deref.ensures.value
+    ∙ seen_all (λ (level : List ℤ). length level ≡ size) view c.self.inside.counters.items c.from.result c.index.result.now (within c) c.index.ensures c.self.invariant.shape in
+    omega (arith, few, shape)
 
 pub returns-clause-bound : goal.returns-clause-bound
 returns-clause-bound c =
