@@ -21,16 +21,16 @@ use Rattle.sketch_levels.specs.Kept as levels
 use Rattle.sketch_levels.proofs.Live.{live_items-live, live_items-dead, live_items-none}
 use Rattle.pcap_reader.specs.Trace.{Record}
 use Rattle.pcap_reader.specs.declared.header.Header.{Header}
-use Rattle.mon_command.specs.Central.{items_of, item_of, levels_setting, kept_number, nonzero, level_count, drops}
+use Rattle.mon_command.specs.Central.{items_of, item_of, levels_setting, kept_keys, nonzero, level_count, drops}
 use Rattle.mon_command.specs.Live.{CountsLive, AreLive}
 use Rattle.mon_command.specs.Options.{is_setting}
 use Rattle.mon_command.specs.Sketched.{Sketches, HasRoom, IsNoted, items_of_key, any_mark}
 use Rattle.mon_command.specs.declared.setting.Setting.{Setting}
 use Rattle.mon_command.specs.declared.sketching.Sketched.{Sketched}
-use Rattle.mon_command.specs.declared.summary.LevelCount.{LevelCount}
+use Rattle.change_report.specs.declared.level_count.LevelCount.{LevelCount}
 
 -- the items of a level are not more than all
-length-live_items-le : (seed level : ℕ) (items : List Item) → length (live_items seed level items) ≤ length items
+pub length-live_items-le : (seed level : ℕ) (items : List Item) → length (live_items seed level items) ≤ length items
 unfolding live_items
 length-live_items-le seed level items =
     let live = λ (item : Item). is_live seed level item.key in
@@ -147,18 +147,18 @@ counts_in {seed} {key} {before} {after} v is size counts =
     subst (λ (l : List ℕ). CountsLive seed key v.items l) (sym (with_items_is v after size))
     (subst (λ (l : List ℕ). CountsLive seed key l after) is counts)
 
--- the number of keys kept, by whether all live keys are noted
-pub kept_all : (setting : Setting) (level : ℕ) (live : List Item) → (setting.heap == 0) ≡ true → length (distinct_keys live) ≡ kept_number setting level live
-unfolding kept_number
+-- the keys kept, by whether all live keys are noted
+pub kept_all : (setting : Setting) (level : ℕ) (live : List Item) → (setting.heap == 0) ≡ true → distinct_keys live ≡ kept_keys setting level live
+unfolding kept_keys
 kept_all setting level live all = rw all refl
 
-pub kept_heap : (setting : Setting) (level : ℕ) (live : List Item) → (setting.heap == 0) ≡ false → length (levels.kept (levels_setting setting) level live) ≡ kept_number setting level live
-unfolding kept_number
+pub kept_heap : (setting : Setting) (level : ℕ) (live : List Item) → (setting.heap == 0) ≡ false → map (λ entry. entry.key) (levels.kept (levels_setting setting) level live) ≡ kept_keys setting level live
+unfolding kept_keys
 kept_heap setting level live heap = rw heap refl
 
 -- the numbers of a level
 pub level_count_is : (setting : Setting) (items : List Item) (level packets weight keys number : ℕ) → packets ≡ length (live_items setting.seed level items) → weight ≡ weight_of (live_items setting.seed level items)
-    → keys ≡ kept_number setting level (live_items setting.seed level items) → number ≡ nonzero (counters_of setting.seed level setting.rows setting.width (live_items setting.seed level items))
+    → keys ≡ length (kept_keys setting level (live_items setting.seed level items)) → number ≡ nonzero (counters_of setting.seed level setting.rows setting.width (live_items setting.seed level items))
     → ◌≡◌ {A = LevelCount} (record { packets = packets; weight = weight; keys = keys; nonzero = number }) (level_count setting items level)
 unfolding level_count
 level_count_is setting items level packets weight keys number p w k n = λ i. record { packets = p i; weight = w i; keys = k i; nonzero = n i }

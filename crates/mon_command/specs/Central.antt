@@ -7,10 +7,12 @@ use Rattle.count_sketch.specs.Counters.{Item, counters_of}
 use Rattle.sketch_levels.specs.Items.{live_items, weight_of, distinct_keys}
 use Rattle.hash_family.specs.Setting as sketch
 use Rattle.sketch_levels.specs.Kept as levels
+use Rattle.sketch_merge.specs.Merged.{View}
+use Rattle.change_report.specs.Block.{block_text}
+use Rattle.change_report.specs.declared.level_count.LevelCount.{LevelCount}
 use Rattle.pcap_reader.specs.declared.header.Header.{Header}
 use Rattle.pcap_reader.specs.Trace.{Record, IsTrace}
 use Rattle.mon_command.specs.declared.setting.Setting.{Setting}
-use Rattle.mon_command.specs.declared.summary.LevelCount.{LevelCount}
 
 -- an item of weight 1
 abbrev pub item_of : List ℕ → Item
@@ -30,10 +32,10 @@ levels_setting setting = record {
   seed = setting.seed;
 }
 
--- how many of the live items' keys are kept at a level
-unfoldable pub kept_number : Setting → ℕ → List Item → ℕ
-kept_number setting level live =
-    if setting.heap == 0 then length (distinct_keys live) else length (levels.kept (levels_setting setting) level live)
+-- the keys that are kept at a level, of the items that are live there
+unfoldable pub kept_keys : Setting → ℕ → List Item → List (List ℕ)
+kept_keys setting level live =
+    if setting.heap == 0 then distinct_keys live else map (λ entry. entry.key) (levels.kept (levels_setting setting) level live)
 
 -- how many counters aren't 0
 abbrev pub nonzero : List ℤ → ℕ
@@ -45,20 +47,9 @@ level_count setting items level =
     let live = live_items setting.seed level items in record {
       packets = length live;
       weight = weight_of live;
-      keys = kept_number setting level live;
+      keys = length (kept_keys setting level live);
       nonzero = nonzero (counters_of setting.seed level setting.rows setting.width live);
     }
-
--- the line of a level
-unfoldable pub level_line : ℕ → LevelCount → List ℕ
-level_line level count =
-    codes "level " ++ (decimal level ++ (codes " packets " ++ (decimal count.packets ++ (codes " weight " ++ (decimal count.weight
-    ++ (codes " keys " ++ (decimal count.keys ++ (codes " nonzero " ++ (decimal count.nonzero ++ codes "\n")))))))))
-
--- the lines of levels, from a number on
-unfoldable pub level_lines : ℕ → List LevelCount → List ℕ
-level_lines level [] = []
-level_lines level (count ∷ counts) = level_line level count ++ level_lines (level + 1) counts
 
 -- the numbers of all levels, from 0 on
 abbrev pub level_counts : Setting → List Item → List LevelCount
@@ -76,9 +67,6 @@ drops setting items = not (setting.heap == 0) && list_any (λ mark. mark) (map (
 unfoldable pub heap_text : ℕ → List ℕ
 heap_text heap = if heap == 0 then codes "all" else decimal heap
 
-unfoldable pub mark_text : Bool → List ℕ
-mark_text dropped = if dropped then codes "dropped" else codes "kept"
-
 -- the line of the packets: how many there are, how many have a key, and how many are counted
 unfoldable pub counts_line : ℕ → ℕ → List ℕ
 counts_line packets keyed =
@@ -90,21 +78,29 @@ sketch_line setting =
     codes "sketch seed " ++ (decimal setting.seed ++ (codes " levels " ++ (decimal setting.levels ++ (codes " rows " ++ (decimal setting.rows
     ++ (codes " width " ++ (decimal setting.width ++ (codes " heap " ++ (heap_text setting.heap ++ codes " weight packets\n")))))))))
 
--- the line of the one epoch
-unfoldable pub epoch_line : ℕ → ℕ → Bool → List ℕ
-epoch_line packets weight dropped =
-    codes "epoch 0 packets " ++ (decimal packets ++ (codes " weight " ++ (decimal weight
-    ++ (codes " heaps " ++ (mark_text dropped ++ codes "\n")))))
+-- the counters and keys of each level, of the items that are live there, and the mark of the heaps
+unfoldable pub central_view : Setting → List Item → View
+central_view setting items = record {
+  setting = levels_setting setting;
+  weight = weight_of items;
+  counters = map (λ level. counters_of setting.seed level setting.rows setting.width (live_items setting.seed level items)) (range_with_len 0 (setting.levels + 1));
+  keys = map (λ level. kept_keys setting level (live_items setting.seed level items)) (range_with_len 0 (setting.levels + 1));
+  dropped = drops setting items;
+}
 
--- the text of the numbers of packets, of packets with a key, their weight, whether a heap dropped a key, and the levels
-abbrev pub lines_of : Setting → ℕ → ℕ → ℕ → Bool → List LevelCount → List ℕ
-lines_of setting packets keyed weight dropped counts =
-    codes "univmon central 1\n" ++ (counts_line packets keyed ++ (sketch_line setting ++ (epoch_line keyed weight dropped
-    ++ (level_lines 0 counts ++ codes "end\n"))))
+-- the lines of the one epoch
+abbrev pub epoch_block : Setting → List Item → List ℕ
+epoch_block setting items =
+    block_text setting.seed 0 (length items) (central_view setting items) (level_counts setting items) setting.heavy
 
+-- the text of the numbers of packets and of those that have a key, and of the lines of the epoch
+unfoldable pub lines_of : Setting → ℕ → ℕ → List ℕ → List ℕ
+lines_of setting packets keyed block =
+    codes "univmon central 1\n" ++ (counts_line packets keyed ++ (sketch_line setting ++ (block ++ codes "end\n")))
+
+-- the text of a number of packets and the items of those that have a key
 unfoldable pub central_text : Setting → ℕ → List Item → List ℕ
-central_text setting packets items =
-    lines_of setting packets (length items) (weight_of items) (drops setting items) (level_counts setting items)
+central_text setting packets items = lines_of setting packets (length items) (epoch_block setting items)
 
 -- the text for contents that are a trace of some records
 pub record IsCentral (contents : Option (List ℕ)) (setting : Setting) (text : List ℕ) : Type 0 where

@@ -6,14 +6,14 @@ use Rattle.std.specs.Char.{is_ascii_digit}
 use Rattle.std.specs.Str.Parse.{digits_value}
 use Rattle.hash_family.specs.Limits.{is_rows, is_width}
 use Rattle.mon_command.specs.declared.opt.Opt.{Opt}
-use Rattle.mon_command.specs.declared.opt.Opt.TheVariants.{Seed, Levels, Rows, Width, Heap}
+use Rattle.mon_command.specs.declared.opt.Opt.TheVariants.{Seed, Levels, Rows, Width, Heap, Heavy}
 use Rattle.mon_command.specs.declared.setting.Setting.{Setting}
 use Rattle.mon_command.specs.declared.status.UsageFault.{UsageFault}
 use Rattle.mon_command.specs.declared.status.UsageFault.TheVariants.{Refused, Value}
 
 -- the options in the order of the table
 abbrev pub options : List Opt
-options = Seed ∷ Levels ∷ Rows ∷ Width ∷ Heap ∷ []
+options = Seed ∷ Levels ∷ Rows ∷ Width ∷ Heap ∷ Heavy ∷ []
 
 -- an option as it is written
 abbrev pub name_of : Opt → List ℕ
@@ -22,6 +22,7 @@ name_of Levels = codes "--levels"
 name_of Rows = codes "--rows"
 name_of Width = codes "--width"
 name_of Heap = codes "--heap"
+name_of Heavy = codes "--heavy"
 
 -- the numbers that an option takes
 abbrev pub is_in_range : Opt → ℕ → Bool
@@ -30,6 +31,7 @@ is_in_range Levels number = nat_le number 16
 is_in_range Rows number = is_rows number
 is_in_range Width number = is_width number
 is_in_range Heap number = nat_le number 1024
+is_in_range Heavy number = nat_le 1 number && nat_le number 1000
 
 -- the number of an option that is not given
 abbrev pub default_of : Opt → ℕ
@@ -38,6 +40,7 @@ default_of Levels = 12
 default_of Rows = 5
 default_of Width = 1024
 default_of Heap = 0
+default_of Heavy = 10
 
 -- a name, and the word behind it
 pub record Pair : Type 0 where
@@ -92,6 +95,7 @@ setting_of pairs = record {
   rows = unwrap_or (number_among pairs Rows) 0;
   width = unwrap_or (number_among pairs Width) 0;
   heap = unwrap_or (number_among pairs Heap) 0;
+  heavy = unwrap_or (number_among pairs Heavy) 0;
 }
 
 -- the numbers that the words behind the names ask for
@@ -103,4 +107,6 @@ options_asked words =
 
 -- the numbers of a sketch within their limits, where a heap of 0 keeps every live key
 abbrev pub is_setting : Setting → Bool
-is_setting setting = nat_le setting.levels 16 && is_rows setting.rows && is_width setting.width && nat_le setting.heap 1024
+is_setting setting =
+    nat_le setting.levels 16 && is_rows setting.rows && is_width setting.width && nat_le setting.heap 1024
+    && nat_le 1 setting.heavy && nat_le setting.heavy 1000

@@ -1,19 +1,19 @@
 -- What has been sketched of a trace.
-use Rattle.std.specs.Prelude.{◌≡◌, ℕ, ◌+◌, ◌<◌, ◌≤◌, ◌==◌, false, true, List, [], ◌∷◌, length, map, Bool, Option, Some, None, IfSome, All, ⊤}
+use Rattle.std.specs.Prelude.{◌≡◌, ℕ, ◌+◌, ◌<◌, ◌≤◌, ◌==◌, false, true, List, [], ◌∷◌, length, map, flat_map, ℤ, Bool, Option, Some, None, IfSome, IsTrue, All, ⊤}
 use Rattle.std.specs.List.{list_any, range_with_len}
 use Rattle.count_sketch.specs.Counters.{Item}
 use Rattle.sketch_levels.specs.Items.{live_items, weight_of}
 use Rattle.hash_family.specs.Setting as sketch
 use Rattle.sketch_levels.specs.Kept as levels
-use Rattle.sketch_levels.specs.Levels.{Holds}
+use Rattle.sketch_levels.specs.Levels.{View, Holds, level_at}
 use Rattle.sketch_levels.specs.Noted.{Noted, HoldsNotes, notes_of}
-use Rattle.mon_command.specs.Central.{levels_setting, item_of, items_of, drops, level_counts}
+use Rattle.mon_command.specs.Central.{levels_setting, item_of, items_of, kept_keys}
+use Rattle.mon_command.specs.Options.{is_setting}
 use Rattle.pcap_reader.specs.declared.header.Header.{Header}
 use Rattle.pcap_reader.specs.Trace.{Record, IsTrace}
 use Rattle.mon_command.specs.Live.{AreLive}
 use Rattle.mon_command.specs.declared.setting.Setting.{Setting}
 use Rattle.mon_command.specs.declared.sketching.Sketched.{Sketched}
-use Rattle.mon_command.specs.declared.summary.Summary.{Summary}
 
 -- an item for a packet that has a key, and none for another
 abbrev pub items_of_key : Option (List ℕ) → List Item
@@ -56,17 +56,26 @@ IsTopOf levels (Some noted) = noted.top ≡ levels
 abbrev pub any_mark : sketch.Setting → List Item → ℕ → Bool
 any_mark setting items number = list_any (λ mark. mark) (map (λ level. levels.is_dropped setting (live_items setting.seed level items)) (range_with_len 0 number))
 
--- the numbers of so many packets and these items
-pub record IsSummary (setting : Setting) (packets : ℕ) (items : List Item) (summary : Summary) : Type 0 where
-  pub packets_is : summary.packets ≡ packets
-  pub keyed_is : summary.keyed ≡ length items
-  pub weight_is : summary.weight ≡ weight_of items
-  pub dropped_is : summary.dropped ≡ drops setting items
-  pub levels_is : summary.levels.items ≡ level_counts setting items
+-- what was sketched are some packets, of which at most 1,048,576 have a key
+pub record IsSketch (setting : Setting) (sketched : Sketched) : Type 0 where
+  pub range : IsTrue (is_setting setting)
+  pub packets : ℕ
+  pub items : List Item
+  pub few : length items ≤ 1048576
+  pub sketches : Sketches setting sketched packets items
+
+-- the counters of so many levels, a level behind another
+abbrev pub counters_up_to : View → ℕ → List ℤ
+counters_up_to view number = flat_map (λ level. (level_at view level).sketch.counters) (range_with_len 0 number)
+
+-- the keys that are kept at each of so many levels
+abbrev pub keys_up_to : Setting → List Item → ℕ → List (List (List ℕ))
+keys_up_to setting items number = map (λ level. kept_keys setting level (live_items setting.seed level items)) (range_with_len 0 number)
 
 -- what was sketched are the packets of a trace
 pub record IsSketched (contents : Option (List ℕ)) (setting : Setting) (sketched : Sketched) : Type 0 where
   pub header : Header
   pub members : List Record
   pub trace : IfSome contents (λ bytes. IsTrace bytes header members)
+  pub few : length members ≤ 1048576
   pub sketches : Sketches setting sketched (length members) (items_of header members)

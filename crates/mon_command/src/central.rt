@@ -10,7 +10,6 @@ ghost use Rattle.mon_command.specs.Sketched.{IsSketched};
 
 use crate::setting::Setting;
 use crate::sketching::Sketched;
-use crate::summary::text_of;
 use crate::{Input, Status, TraceFault};
 use flow_keys::key_of;
 use mon_io::{Inputs, Sink, write_all};
@@ -36,10 +35,7 @@ pub(crate) fn central<I: Inputs, K: Sink>(
         Err(PcapStop::Bad(fault)) => return Status::Trace(TraceFault::Pcap(fault)),
         Err(PcapStop::Memory) => return Status::Memory,
     };
-    let Ok(summary) = sketched.summary(alloc, setting) else {
-        return Status::Memory;
-    };
-    let Ok(text) = text_of(alloc, setting, &summary) else {
+    let Ok(text) = sketched.text(alloc, setting) else {
         return Status::Memory;
     };
     match write_all(sink, text.as_bytes()) {

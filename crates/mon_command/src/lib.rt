@@ -4,7 +4,7 @@
 //! - `command`: what the words of a call ask for
 //! - `opt`, `options`, `setting`: the options of a sketch, and the numbers that they give
 //! - `total`: the command `total`
-//! - `central`: the command `central`; `sketching`, `live`: a trace as it is sketched; `summary`: its numbers and text
+//! - `central`: the command `central`; `sketching`, `live`: a trace as it is sketched; `text`: its text
 //! - `alone`: `run_alone`, the commands that start nobody
 //!
 //! `specs/Call.antt` says each status with its cause.
@@ -19,9 +19,9 @@ mod options;
 mod setting;
 mod sketching;
 mod status;
-mod summary;
 #[cfg(test)]
 mod tests;
+mod text;
 mod total;
 
 pub use alone::run_alone;

@@ -15,6 +15,8 @@ pub enum Opt {
     Width,
     /// `--heap`: 0 to 1,024.
     Heap,
+    /// `--heavy`: 1 to 1,000 thousandths.
+    Heavy,
 }
 
 impl Opt {
@@ -28,6 +30,7 @@ impl Opt {
             Opt::Rows => "--rows",
             Opt::Width => "--width",
             Opt::Heap => "--heap",
+            Opt::Heavy => "--heavy",
         }
     }
 
@@ -41,6 +44,7 @@ impl Opt {
             Opt::Rows => matches!(number, 1 | 3 | 5 | 7),
             Opt::Width => matches!(number, 16 | 32 | 64 | 128 | 256 | 512 | 1024 | 2048),
             Opt::Heap => number <= 1024,
+            Opt::Heavy => (1..=1000).contains(&number),
         }
     }
 
@@ -54,6 +58,7 @@ impl Opt {
             Opt::Rows => 5,
             Opt::Width => 1024,
             Opt::Heap => 0,
+            Opt::Heavy => 10,
         }
     }
 }

@@ -20,12 +20,14 @@ pub(crate) fn read_options(words: &[String]) -> Result<Setting, UsageFault>
     let rows = number_among(words, Opt::Rows)?;
     let width = number_among(words, Opt::Width)?;
     let heap = number_among(words, Opt::Heap)?;
+    let heavy = number_among(words, Opt::Heavy)?;
     Ok(Setting {
         seed,
         levels: levels as u8,
         rows: rows as u8,
         width: width as u16,
         heap: heap as u16,
+        heavy: heavy as u32,
     })
 }
 
@@ -50,7 +52,14 @@ fn are_pairs(words: &[String]) -> bool
 fn is_option(name: &str) -> bool
     ensures { result ≡ is_option name.now }
 {
-    let options = [Opt::Seed, Opt::Levels, Opt::Rows, Opt::Width, Opt::Heap];
+    let options = [
+        Opt::Seed,
+        Opt::Levels,
+        Opt::Rows,
+        Opt::Width,
+        Opt::Heap,
+        Opt::Heavy,
+    ];
     options.iter().any(|option| option.name() == name)
 }
 

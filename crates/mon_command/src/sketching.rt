@@ -1,17 +1,23 @@
 //! A trace as it is sketched, packet by packet.
-ghost use Rattle.std.specs.Prelude.{◌≡◌, ◌<◌, ◌≤◌, ◌+◌, ◌++◌, ℕ, List, [], IfOk, OnOk, IsTrue, length, replicate};
-ghost use Rattle.count_sketch.specs.Counters.{Item};
+ghost use Rattle.std.specs.Prelude.{◌≡◌, ◌<◌, ◌≤◌, ◌+◌, ◌*◌, ◌++◌, ℕ, List, [], All, IfOk, OnOk, IsTrue, length, map, replicate, string_bytes};
+ghost use Rattle.std.specs.Cmp.Lexicographic.{slice_cmp};
+ghost use Rattle.std.specs.Ordering.{nat_cmp};
+ghost use Rattle.std.specs.List.Sorted.{IsStrictlySortedBy};
+ghost use Rattle.count_sketch.specs.Counters.{Item, AllUpTo};
+ghost use Rattle.sketch_merge.specs.Merged.{HaveUpTo};
 ghost use Rattle.mon_command.specs.Options.{is_setting};
 ghost use Rattle.mon_command.specs.Central.{levels_setting, nonzero};
 ghost use Rattle.hash_family.specs.Setting.{setting_of};
 
 use crate::live::count_live;
 use crate::setting::Setting;
-use crate::summary::{LevelCount, Summary};
+use crate::text::text_of;
+use change_report::{LevelCount, epoch_text};
 use flow_keys::FlowKey;
 use hash_family::{Family, Params};
 use mon_io::Memory;
 use sketch_levels::{AllKeys, Levels};
+use sketch_merge::Merged;
 use std::alloc::Global;
 
 /// The levels of a sketch, all live keys where they are kept, how many packets are live at each level,
@@ -27,8 +33,8 @@ pub(crate) struct Sketched {
 }
 
 impl Sketched {
-    ghost use Rattle.mon_command.specs.Sketched.{Sketches, HasRoom, IsTopOf, IsSummary, any_mark, items_of_key};
-    ghost use Rattle.mon_command.specs.Central.{level_count, level_counts, kept_number};
+    ghost use Rattle.mon_command.specs.Sketched.{Sketches, IsSketch, HasRoom, IsTopOf, any_mark, items_of_key, counters_up_to, keys_up_to};
+    ghost use Rattle.mon_command.specs.Central.{central_text, central_view, epoch_block, kept_keys, level_count, level_counts};
     ghost use Rattle.sketch_levels.specs.Items.{live_items};
     ghost use Rattle.sketch_levels.specs.Levels.{Holds};
 
@@ -74,38 +80,123 @@ impl Sketched {
         }
     }
 
-    /// The numbers of what was sketched.
-    pub(crate) fn summary(&self, alloc: Global, setting: &Setting) -> Result<Summary, Memory>
-        requires shape { self.now.levels.setting ≡ levels_setting setting.now }
-        requires range { IsTrue (is_setting setting.now) }
-        requires number { length self.now.live.items ≡ setting.now.levels + 1 }
-        requires noted { IsTopOf setting.now.levels self.now.all }
-        ensures { IfOk result (λ summary. (packets : ℕ) (items : List Item) →
-            Sketches setting.now self.now packets items → IsSummary setting.now packets items summary) }
+    /// The text of what was sketched.
+    pub(crate) fn text(&self, alloc: Global, setting: &Setting) -> Result<String, Memory>
+        requires sketch { IsSketch setting.now self.now }
+        ensures text { IfOk result (λ text. (packets : ℕ) (items : List Item) →
+            Sketches setting.now self.now packets items → string_bytes text ≡ central_text setting.now packets items) }
     {
+        let block = self.block(alloc, setting)?;
+        match text_of(alloc, setting, self.packets, self.keyed, &block) {
+            Ok(text) => Ok(text),
+            Err(_) => Err(Memory),
+        }
+    }
+
+    // The lines of the epoch.
+    fn block(&self, alloc: Global, setting: &Setting) -> Result<String, Memory>
+        requires sketch { IsSketch setting.now self.now }
+        ensures text { IfOk result (λ text. (packets : ℕ) (items : List Item) →
+            Sketches setting.now self.now packets items → string_bytes text ≡ epoch_block setting.now items) }
+    {
+        let merged = self.merged(alloc, setting)?;
+        let counts = self.level_counts(alloc, setting, &merged)?;
+        epoch_text(
+            alloc,
+            &self.family,
+            0,
+            self.keyed,
+            &merged,
+            &counts,
+            setting.heavy,
+        )
+    }
+
+    // What was sketched, as a merged sketch.
+    fn merged(&self, alloc: Global, setting: &Setting) -> Result<Merged, Memory>
+        requires sketch { IsSketch setting.now self.now }
+        ensures value { IfOk result (λ merged. (packets : ℕ) (items : List Item) →
+            Sketches setting.now self.now packets items → merged ≡ central_view setting.now items) }
+        ensures few { IfOk result (λ merged. HaveUpTo 1048576 merged.keys) }
+    {
+        let counters = self.counters(alloc, setting.levels)?;
+        let keys = self.keys(alloc, setting)?;
         let dropped = self.all.is_none() && self.any_dropped(setting.levels);
-        let levels = self.level_counts(alloc, setting)?;
-        Ok(Summary {
-            packets: self.packets,
-            keyed: self.keyed,
-            weight: u64::from(self.keyed),
-            dropped,
-            levels,
-        })
+        let weight = self.levels.weight();
+        Merged::from_levels(alloc, params_of(setting), counters, keys, dropped, weight)
+    }
+
+    // The counters of all levels up to this one, a level behind another.
+    fn counters(&self, alloc: Global, levels: u8) -> Result<Vec<i64>, Memory>
+        requires high { levels ≤ self.now.levels.setting.levels }
+        requires small { levels ≤ 16 }
+        ensures value { IfOk result (λ counters. counters.items ≡ counters_up_to self.now.levels (levels + 1)) }
+        ensures bound { IfOk result (λ counters. AllUpTo self.now.levels.weight counters.items) }
+        ensures size { IfOk result (λ counters. length counters.items
+            ≡ (levels + 1) * (self.now.levels.setting.rows * self.now.levels.setting.width)) }
+    {
+        let mut counters = Vec::new(alloc);
+        for level in 0..levels + 1 {
+            let Ok(()) = counters.extend_from_slice(self.levels.counters(level)) else {
+                return Err(Memory);
+            };
+        }
+        Ok(counters)
+    }
+
+    // The keys that each level keeps.
+    fn keys(&self, alloc: Global, setting: &Setting) -> Result<Vec<Vec<FlowKey>>, Memory>
+        requires sketch { IsSketch setting.now self.now }
+        ensures value { IfOk result (λ keys. (packets : ℕ) (items : List Item) →
+            Sketches setting.now self.now packets items →
+            map (λ level. level.items) keys.items ≡ keys_up_to setting.now items (setting.now.levels + 1)) }
+        ensures number { IfOk result (λ keys. length keys.items ≡ setting.now.levels + 1) }
+        ensures ascending { IfOk result (λ keys. All (λ level. IsStrictlySortedBy (slice_cmp nat_cmp) level.items) keys.items) }
+        ensures few { IfOk result (λ keys. All (λ level. length level.items ≤ 1048576) keys.items) }
+    {
+        let mut keys = Vec::new(alloc);
+        for level in 0..setting.levels + 1 {
+            let kept = self.kept(alloc, setting, level)?;
+            let Ok(()) = keys.push(kept) else {
+                return Err(Memory);
+            };
+        }
+        Ok(keys)
+    }
+
+    // The keys that a level keeps.
+    fn kept(&self, alloc: Global, setting: &Setting, level: u8) -> Result<Vec<FlowKey>, Memory>
+        requires sketch { IsSketch setting.now self.now }
+        requires high { level ≤ setting.now.levels }
+        ensures value { IfOk result (λ keys. (packets : ℕ) (items : List Item) →
+            Sketches setting.now self.now packets items →
+            keys.items ≡ kept_keys setting.now level (live_items setting.now.seed level items)) }
+        ensures ascending { IfOk result (λ keys. IsStrictlySortedBy (slice_cmp nat_cmp) keys.items) }
+        ensures few { IfOk result (λ keys. length keys.items ≤ 1048576) }
+    {
+        match &self.all {
+            Some(all) => all.keys(alloc, level),
+            None => self.levels.keys(alloc, level),
+        }
     }
 
     // The numbers of all levels.
-    fn level_counts(&self, alloc: Global, setting: &Setting) -> Result<Vec<LevelCount>, Memory>
-        requires shape { self.now.levels.setting ≡ levels_setting setting.now }
-        requires range { IsTrue (is_setting setting.now) }
-        requires number { length self.now.live.items ≡ setting.now.levels + 1 }
-        requires noted { IsTopOf setting.now.levels self.now.all }
-        ensures { IfOk result (λ counts. (packets : ℕ) (items : List Item) →
-            Sketches setting.now self.now packets items → counts.items ≡ level_counts setting.now items) }
+    fn level_counts(
+        &self,
+        alloc: Global,
+        setting: &Setting,
+        merged: &Merged,
+    ) -> Result<Vec<LevelCount>, Memory>
+        requires sketch { IsSketch setting.now self.now }
+        requires levels { merged.now.setting.levels ≡ setting.now.levels }
+        requires few { HaveUpTo 1048576 merged.now.keys }
+        ensures value { IfOk result (λ counts. (packets : ℕ) (items : List Item) →
+            Sketches setting.now self.now packets items → merged.now ≡ central_view setting.now items →
+            counts.items ≡ level_counts setting.now items) }
     {
         let mut counts = Vec::new(alloc);
         for level in 0..setting.levels + 1 {
-            let count = self.level_count(alloc, level)?;
+            let count = self.level_count(level, merged);
             let Ok(()) = counts.push(count) else {
                 return Err(Memory);
             };
@@ -114,35 +205,21 @@ impl Sketched {
     }
 
     // The numbers of one level.
-    fn level_count(&self, alloc: Global, level: u8) -> Result<LevelCount, Memory>
+    fn level_count(&self, level: u8, merged: &Merged) -> LevelCount
         requires number { level < length self.now.live.items }
-        requires high { level ≤ self.now.levels.setting.levels }
-        requires noted { IsTopOf self.now.levels.setting.levels self.now.all }
-        ensures { IfOk result (λ count. (setting : Setting) (packets : ℕ) (items : List Item) →
-            Sketches setting self.now packets items → count ≡ level_count setting items level) }
+        requires high { level ≤ merged.now.setting.levels }
+        requires few { HaveUpTo 1048576 merged.now.keys }
+        ensures value { (setting : Setting) (packets : ℕ) (items : List Item) →
+            Sketches setting self.now packets items → merged.now ≡ central_view setting items →
+            level ≤ setting.levels → result ≡ level_count setting items level }
     {
         let packets = self.live[usize::from(level)];
-        let keys = self.kept(alloc, level)?;
-        Ok(LevelCount {
+        LevelCount {
             packets,
             weight: u64::from(packets),
-            keys,
-            nonzero: nonzero(self.levels.counters(level)),
-        })
-    }
-
-    // How many keys a level keeps.
-    fn kept(&self, alloc: Global, level: u8) -> Result<usize, Memory>
-        requires high { level ≤ self.now.levels.setting.levels }
-        requires noted { IsTopOf self.now.levels.setting.levels self.now.all }
-        ensures { IfOk result (λ keys. (setting : Setting) (packets : ℕ) (items : List Item) →
-            Sketches setting self.now packets items → keys ≡ kept_number setting level (live_items setting.seed level items)) }
-    {
-        let keys = match &self.all {
-            Some(all) => all.keys(alloc, level)?,
-            None => self.levels.keys(alloc, level)?,
-        };
-        Ok(keys.len())
+            keys: merged.keys(level).len() as u32,
+            nonzero: nonzero(merged.counters(level)),
+        }
     }
 
     // Whether a heap dropped a key.
@@ -159,11 +236,12 @@ impl Sketched {
     }
 }
 
-// How many counters aren't 0.
-fn nonzero(counters: &[i64]) -> usize
+// How many counters of a level aren't 0.
+fn nonzero(counters: &[i64]) -> u32
+    requires { length counters.now ≤ 14336 }
     ensures { result ≡ nonzero counters.now }
 {
-    counters.iter().filter(|counter| **counter != 0).count()
+    counters.iter().filter(|counter| **counter != 0).count() as u32
 }
 
 // The parameters of the levels: where every live key is kept beside them, their heaps have one place.

@@ -28,6 +28,7 @@ returns-in-Ok-None-clause-sketched g c =
       header = c.next.new.self.header;
       members = sketching.members;
       trace = whole_trace _ ended.0 ended.1;
+      few = sketching.so_far.begins.few;
       sketches = subst (λ (h : Header). Sketches c.args.setting.now c.loop-packet.sketched (length sketching.members) (items_of h sketching.members)) (sym c.next.ensures.header) sketching.sketches;
     }
 

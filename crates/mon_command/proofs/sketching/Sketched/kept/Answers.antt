@@ -1,29 +1,32 @@
-use Rattle.std.proofs.Common.{rules, ◌≡◌, ℕ, List, length, Vec, ◌∙◌, ap}
-use Rattle.std.proofs.lemmas.List.{length-map}
-use Rattle.std.specs.declared.alloc.Global.{Global}
-use Rattle.flow_keys.specs.declared.key.FlowKey.{FlowKey}
+use Rattle.std.proofs.Common.{◌≡◌, ℕ, ◌≤◌, List, length, IfOk, ◌∙◌, ap, subst, sym, arith}
 use Rattle.hash_family.specs.Setting as sketch
 use Rattle.sketch_levels.specs.Kept as levels
 use Rattle.sketch_levels.specs.Items.{live_items}
+use Rattle.std.specs.Prelude.{map}
+use Rattle.mon_command.proofs.Kept.{few_live}
 use Rattle.mon_command.proofs.Packets.{kept_all, kept_heap, noted_some, noted_nothing}
+use Rattle.mon_command.proofs.Ranges.{if_ok_weaker}
 use Rattle.mon_command.proofs.sketching.Sketched.kept.Goals as goal
-use Rattle.mon_command.proofs.sketching.Sketched.kept.Goals.{in-Some+in_ok-keys-in-Some, in-None+in_ok-keys-in-None}
 
-pub returns : goal.returns
-returns c =
-    let size : c.len.result ≡ length c.match-self.keys.items = search rules in
-    λ setting packets items sketches.
-    elim c.match-self.branch [
-      | in-Some+in_ok-keys-in-Some w ↦
-          let noted = noted_some setting items w.in-Some.is sketches.noted in
-          size ∙ ap (λ (keys : Vec FlowKey Global). length keys.items) w.keys-is
-          ∙ ap (λ (keys : List (List ℕ)). length keys) (w.in_ok-keys-in-Some.ensures.items setting.seed items noted.2)
-          ∙ kept_all setting c.args.level (live_items setting.seed c.args.level items) noted.0
-      | in-None+in_ok-keys-in-None w ↦
-          let none = noted_nothing setting items w.in-None.is sketches.noted in
-          size ∙ ap (λ (keys : Vec FlowKey Global). length keys.items) w.keys-is
-          ∙ ap (λ (keys : List (List ℕ)). length keys) (w.in_ok-keys-in-None.ensures.list items sketches.holds)
-          ∙ length-map _ _
-          ∙ ap (λ (s : sketch.Setting). length (levels.kept s c.args.level (live_items s.seed c.args.level items))) sketches.shape
-          ∙ kept_heap setting c.args.level (live_items setting.seed c.args.level items) none
-    ]
+pub returns-in-Some-clause-value : goal.returns-in-Some-clause-value
+returns-in-Some-clause-value c = if_ok_weaker c.keys.result (λ keys all packets items sketches.
+    let setting = c.args.setting.now in
+    let noted = noted_some setting items c.in-Some.is sketches.noted in
+    all setting.seed items noted.2 ∙ kept_all setting c.args.level (live_items setting.seed c.args.level items) noted.0) c.keys.ensures.items
+
+pub returns-in-Some-clause-few : goal.returns-in-Some-clause-few
+returns-in-Some-clause-few c =
+    let sketch = c.requires.sketch in
+    if_ok_weaker c.keys.result (λ keys all.
+    let setting = c.args.setting.now in
+    let noted = noted_some setting sketch.items c.in-Some.is sketch.sketches.noted in
+    subst (λ (l : List (List ℕ)). length l ≤ 1048576) (sym (all setting.seed sketch.items noted.2))
+    (omega (arith, few_live setting.seed c.args.level sketch.items, sketch.few))) c.keys.ensures.items
+
+pub returns-in-None-clause-value : goal.returns-in-None-clause-value
+returns-in-None-clause-value c = if_ok_weaker c.keys-in-None.result (λ keys all packets items sketches.
+    let setting = c.args.setting.now in
+    let none = noted_nothing setting items c.in-None.is sketches.noted in
+    all items sketches.holds
+    ∙ ap (λ (s : sketch.Setting). map (λ entry. entry.key) (levels.kept s c.args.level (live_items s.seed c.args.level items))) sketches.shape
+    ∙ kept_heap setting c.args.level (live_items setting.seed c.args.level items) none) c.keys-in-None.ensures.list

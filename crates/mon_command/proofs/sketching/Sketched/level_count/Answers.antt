@@ -1,18 +1,22 @@
-use Rattle.std.proofs.Common.{ℤ, List, sym, ◌∙◌, ap}
-use Rattle.count_sketch.specs.Counters.{counters_of}
-use Rattle.sketch_levels.specs.Items.{live_items}
-use Rattle.hash_family.specs.Setting as sketch
+use Rattle.std.proofs.Common.{◌≡◌, ◌≤◌, ◌*◌, ℕ, ℤ, List, length, sym, ◌∙◌, ap, subst, arith, rules}
+use Rattle.sketch_merge.specs.Merged.{View, counters_at, keys_at}
 use Rattle.mon_command.specs.Central.{nonzero}
 use Rattle.mon_command.proofs.Packets.{level_count_is, read_at}
+use Rattle.mon_command.proofs.Views.{few_at, few_counters, view_counters, view_keys}
 use Rattle.mon_command.proofs.sketching.Sketched.level_count.Goals as goal
 
+pub overflow_cast-result : goal.overflow_cast-result
+overflow_cast-result c =
+    let few : length c.keys.result.now ≤ 1048576 = subst (λ (keys : List (List ℕ)). length keys ≤ 1048576) (sym c.keys.ensures.value) (few_at 1048576 c.args.merged.now c.args.level c.requires.few) in
+    omega (arith, few)
+
 pub returns : goal.returns
-returns c = λ setting packets items sketches.
-    let level = c.args.level in
-    let live = read_at c.args.self.now.live.items c.from.result level c.index-packets.result.now c.index-packets.ensures c.from.ensures c.requires.number ∙ sketches.live.each level c.requires.number in
-    level_count_is setting items level _ _ _ _ live
-    (c.from-2.ensures ∙ live ∙ sym (sketches.ones level))
-    (c.in_ok-keys.ensures setting packets items sketches)
-    (c.nonzero.ensures
-    ∙ ap (λ (counters : List ℤ). nonzero counters) (c.counters.ensures.list items sketches.holds)
-    ∙ ap (λ (s : sketch.Setting). nonzero (counters_of s.seed level s.rows s.width (live_items s.seed level items))) sketches.shape)
+returns c = record {
+  value = λ setting packets items sketches view within.
+      let level = c.args.level in
+      let live = read_at c.args.self.now.live.items c.from.result level c.index-packets.result.now c.index-packets.ensures c.from.ensures c.requires.number ∙ sketches.live.each level c.requires.number in
+      level_count_is setting items level _ _ _ _ live
+      (c.from-2.ensures ∙ live ∙ sym (sketches.ones level))
+      (ap (λ (keys : List (List ℕ)). length keys) (c.keys.ensures.value ∙ ap (λ (v : View). keys_at v level) view ∙ view_keys setting items level within))
+      (c.nonzero.ensures ∙ ap (λ (counters : List ℤ). nonzero counters) (c.counters.ensures.value ∙ ap (λ (v : View). counters_at v level) view ∙ view_counters setting items level within));
+}
