@@ -16,6 +16,8 @@ mod command;
 mod matches;
 mod numeral;
 mod opt;
+#[cfg(test)]
+mod tests;
 mod usage_fault;
 mod words;
 mod words_fault;
