@@ -39,6 +39,17 @@ pub record IsInRange (values : Values) : Type 0 where
   pub heavy_from : 1 ≤ values.heavy
   pub heavy_up_to : values.heavy ≤ 1000
 
+-- no topology is named, and each option has its default
+pub record HasDefaults (values : Values) : Type 0 where
+  pub no_topology : values.topology ≡ None
+  pub seed_is : values.seed ≡ 1
+  pub levels_are : values.levels ≡ 12
+  pub rows_are : values.rows ≡ 5
+  pub width_is : values.width ≡ 1024
+  pub heap_is : values.heap ≡ default_heap values.command
+  pub no_epoch : values.epoch ≡ None
+  pub heavy_is : values.heavy ≡ 10
+
 -- the command that a word names
 abbrev pub command_of : List ℕ → Option Command
 command_of word =
@@ -53,6 +64,11 @@ is_taken command words = length (fault_of (app_for command) words) == 0
 -- what clap reads in them
 unfoldable pub rows_in : Command → List (List ℕ) → List Row
 rows_in command words = matches_of (app_for command) words
+
+-- neither a topology nor an option is given
+pub record IsBare (rows : List Row) : Type 0 where
+  pub no_topology : first_of (codes "topology") rows ≡ None
+  pub no_option : (option : Opt) → first_of (id_of option) rows ≡ None
 
 -- an option is given a value that is not a number in its range
 abbrev pub is_refused : Command → List Row → Opt → Bool

@@ -5,7 +5,7 @@ ghost use Rattle.clap.specs.Words.{app_of, first_of, found_of, rows_of};
 ghost use Rattle.mon_words.specs.Apps.{app_for};
 ghost use Rattle.mon_words.specs.Needs.{IsStrict, Needs};
 ghost use Rattle.mon_words.specs.Options.{id_of, is_in_range};
-ghost use Rattle.mon_words.specs.Values.{Explains, is_refused, is_taken, number_or, rest_of, rows_in};
+ghost use Rattle.mon_words.specs.Values.{Explains, IsBare, is_refused, is_taken, number_or, rest_of, rows_in};
 
 use crate::app::{central_app, total_app};
 use crate::numeral::number;
@@ -23,6 +23,7 @@ pub(crate) fn matches_in<'a>(
     ensures taken { IfOk result (λ _. is_taken command (map string_bytes words.now) ≡ true) }
     ensures rows { IfOk result (λ matches. rows_of (found_of matches) ≡ rows_in command (map string_bytes words.now)) }
     ensures named { IfOk result (λ _. is_some (first_of (codes "trace") (rows_in command (map string_bytes words.now))) ≡ true) }
+    ensures bare { IfOk result (λ _. command ≡ Command.Total → IsBare (rows_in command (map string_bytes words.now))) }
     ensures refused { IfErr result (Explains (rest_of command (map string_bytes words.now))) }
 {
     let Ok(app) = app_for(alloc, command) else {

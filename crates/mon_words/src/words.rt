@@ -4,7 +4,7 @@ ghost use Rattle.std.specs.Option.{option_map, option_map_or};
 ghost use Rattle.std.specs.Str.Parse.{digits_value};
 ghost use Rattle.clap.specs.Words.{first_of, found_of, rows_of};
 ghost use Rattle.mon_words.specs.Options.{id_of};
-ghost use Rattle.mon_words.specs.Values.{Explains, IsInRange, is_refused, read_of, rest_of, words_of};
+ghost use Rattle.mon_words.specs.Values.{Explains, HasDefaults, IsInRange, is_refused, read_of, rest_of, words_of};
 
 use crate::matches::{matches_in, number_given, number_or, text_of};
 use crate::{Command, Opt, UsageFault, WordsFault};
@@ -58,6 +58,7 @@ pub fn read_words(alloc: Global, words: &[String]) -> Result<Words, WordsFault>
         (λ read. words_of (map string_bytes words.now) ≡ Ok read)
         (Explains (words_of (map string_bytes words.now))) }
     ensures range { IfOk result IsInRange }
+    ensures defaults { IfOk result (λ read. read.command ≡ Command.Total → HasDefaults read) }
 {
     let [first, rest @ ..] = words else {
         return Err(WordsFault::Usage(UsageFault::NoCommand));
@@ -74,6 +75,7 @@ fn read_rest(alloc: Global, command: Command, words: &[String]) -> Result<Words,
         (λ read. rest_of command (map string_bytes words.now) ≡ Ok read)
         (Explains (rest_of command (map string_bytes words.now))) }
     ensures range { IfOk result IsInRange }
+    ensures defaults { IfOk result (λ read. read.command ≡ Command.Total → HasDefaults read) }
 {
     let matches = matches_in(alloc, command, words)?;
     read_matches(alloc, command, &matches)

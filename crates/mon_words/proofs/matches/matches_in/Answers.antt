@@ -1,6 +1,9 @@
-use Rattle.std.proofs.Common.{List, sym, ap, subst, ◌∙◌, refl, map, string_bytes, codes, is_some}
-use Rattle.clap.specs.Words.{App, HasKind, Row, fault_of, first_of, found_of, is_simple, is_simple_and_free, matches_of}
+use Rattle.std.proofs.Common.{◌≡◌, List, sym, ap, subst, ◌∙◌, refl, map, string_bytes, codes, is_some}
+use Rattle.clap.specs.Words.{App, HasKind, Row, app_of, fault_of, first_of, found_of, is_simple, is_simple_and_free, matches_of}
 use Rattle.clap.proofs.WalkLemmas.{first_value-rows}
+use Rattle.mon_words.specs.Apps.{app_for, total_app}
+use Rattle.mon_words.specs.Values.{IsBare}
+use Rattle.mon_words.proofs.Absences.{total_is_bare}
 use Rattle.mon_words.proofs.Arguments.{name_is_given}
 use Rattle.mon_words.proofs.Refusals.{is_exact, is_known, not_taken, read, taken}
 use Rattle.mon_words.proofs.matches.matches_in.Goals as goal
@@ -34,4 +37,11 @@ returns c =
     let words = map string_bytes c.args.words.now in
     let has = subst (λ (app : App). HasKind (fault_of app words) c.in-Err.error) c.in-Ok.ensures.app (c.in-Err.ensures.kinds exact) in
     let refused = not_taken c.args.command words c.in-Err.error has (λ memory. c.in_default-kind.not-OutOfMemory (c.kind.ensures ∙ memory)) in
-    record { taken = tt; rows = tt; named = tt; refused = rw refused refl }
+    record { taken = tt; rows = tt; named = tt; bare = tt; refused = rw refused refl }
+
+pub returns-in-Ok-try_get_matches_from-clause-bare :
+    goal.returns-in-Ok-try_get_matches_from-clause-bare
+returns-in-Ok-try_get_matches_from-clause-bare c = λ total.
+    let matches = c.in-Ok-try_get_matches_from.matches in
+    let app_is : app_of c.in-Ok.app ≡ total_app = c.in-Ok.ensures.app ∙ ap app_for total in
+    subst IsBare (returns-in-Ok-try_get_matches_from-clause-rows c) (total_is_bare c.in-Ok.app matches c.in-Ok.ensures.strict c.in-Ok-try_get_matches_from.ensures.parsed app_is)
