@@ -23,6 +23,7 @@ strict_with old new a added plain local strict = record {
   alone = added.negates ∙ strict.alone;
 }
 
+-- the places of a list, and the one behind them
 left : (xs : List Arg) (y : Arg) (k : ℕ) (d : Arg) → k < length xs → slice_index_or (xs ++ y ∷ []) k d ≡ slice_index_or xs k d
 left xs y k d lt = get_or_append_left xs (y ∷ []) d k lt
 
@@ -88,6 +89,7 @@ needs_new old new a added fresh taken =
           ];
     }
 
+-- some argument of a list that has one
 some_of : (xs : List Arg) (k : ℕ) → k < length xs → Arg
 some_of [] k lt = absurd (omega arith)
 some_of (x ∷ xs) k lt = x

@@ -32,7 +32,7 @@ unfoldable pub with_sketch_options : App → App
 with_sketch_options app =
     with_option (codes "heap") (with_option (codes "width") (with_option (codes "rows") (with_option (codes "levels") (with_option (codes "seed") app))))
 
--- the options of how a trace is weighed
+-- the options of epochs, of heavy keys and of a topology
 unfoldable pub with_trace_options : App → App
 with_trace_options app = with_option (codes "topology") (with_option (codes "heavy") (with_option (codes "epoch") app))
 

@@ -1,6 +1,6 @@
 //! The words behind each command, as clap is told of them.
 ghost use Rattle.std.specs.Prelude.{◌≡◌, ℕ, List, [], IfOk, codes, bytes_eq, true, false};
-ghost use Rattle.clap.specs.Built.{FitsChain, TakesValue, IsPlainArg};
+ghost use Rattle.clap.specs.Built.{IsPlainArg, TakesValue};
 ghost use Rattle.clap.specs.Words.{app_of, args_of, rule_of};
 ghost use Rattle.mon_words.specs.Apps.{bare_app, central_app, name_rule, option_rule, total_app, with_name, with_option, with_sketch_options, with_trace_options};
 ghost use Rattle.mon_words.specs.Needs.{IsFresh, IsStrict, Needs};
@@ -48,7 +48,7 @@ fn with_sketch_options<'a>(alloc: Global, app: Command<'a>) -> Result<Command<'a
     Ok(app)
 }
 
-// With the options of how a trace is weighed.
+// With the options of epochs, of heavy keys and of a topology.
 #[tactic(auto, unfolding(crate::specs::Apps::with_trace_options))]
 fn with_trace_options<'a>(alloc: Global, app: Command<'a>) -> Result<Command<'a>, AllocError>
     requires strict { IsStrict app }

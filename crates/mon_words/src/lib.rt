@@ -3,7 +3,7 @@
 //! - `words`: `Words` and `read_words`
 //! - `command`: `Command`, which the first word names
 //! - `app`: the words behind each command, as a definition of the crate clap
-//! - `matches`: what clap reads in them, or that it refuses them
+//! - `matches`: what clap reads in them, and the texts and numbers there
 //! - `opt`: `Opt`, the options with a number; `numeral`: the number that a value spells
 //! - `usage_fault`, `words_fault`: why words are refused
 //!

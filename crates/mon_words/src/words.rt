@@ -17,14 +17,23 @@ use std::marker::Model;
 #[derive(Debug, Drop)]
 pub struct Words {
     pub command: Command,
+    /// One name, of a trace.
     pub names: Vec<String>,
+    /// `--topology`, any text.
     pub topology: Option<String>,
+    /// `--seed`.
     pub seed: u64,
+    /// `--levels`, the highest level: 0 to 16.
     pub levels: u8,
+    /// `--rows` of a level: 1, 3, 5 or 7.
     pub rows: u8,
+    /// `--width`, the counters in a row: a power of two from 16 to 2,048.
     pub width: u16,
+    /// `--heap`, the keys that a level keeps, up to 1,024; 0 keeps all live keys.
     pub heap: u16,
+    /// `--epoch`, in seconds: at least 1, and None where the whole trace is one epoch.
     pub epoch: Option<u32>,
+    /// `--heavy`, the share of a heavy key: 1 to 1,000 per mille.
     pub heavy: u32,
 }
 
