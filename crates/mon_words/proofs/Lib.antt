@@ -1,0 +1,5 @@
+pub mod Absences
+pub mod Arguments
+pub mod Defaults
+pub mod Numerals
+pub mod Refusals

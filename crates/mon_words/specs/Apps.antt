@@ -1,0 +1,45 @@
+-- The words that each command takes, as a definition of the crate clap.
+use Rattle.std.specs.Prelude.{true, List, Some, ℕ, codes}
+use Rattle.clap.specs.Words.{App, Rule, new_app, new_rule, with_rule}
+use Rattle.clap.specs.declared.builder.action.ArgAction.TheVariants.{Set}
+use Rattle.mon_words.specs.declared.command.Command.{Command}
+use Rattle.mon_words.specs.declared.command.Command.TheVariants.{Total, Central}
+
+-- a word that has to stand in its place
+abbrev pub name_rule : List ℕ → Rule
+name_rule id = record (new_rule id) { action = Some Set; required = true }
+
+-- a value that may be given behind two dashes and this id
+abbrev pub option_rule : List ℕ → Rule
+option_rule id = record (new_rule id) { long = Some id; action = Some Set }
+
+-- a command without a program's name before its words and without a flag of help
+abbrev pub bare_app : List ℕ → App
+bare_app name = let app = new_app name in record app { top = record app.top { no_binary_name = true; disable_help_flag = true } }
+
+abbrev pub with_name : List ℕ → App → App
+with_name id app = with_rule app (name_rule id)
+
+abbrev pub with_option : List ℕ → App → App
+with_option id app = with_rule app (option_rule id)
+
+-- `total` takes the name of a trace alone
+unfoldable pub total_app : App
+total_app = with_name (codes "trace") (bare_app (codes "total"))
+
+-- the options of a sketch
+unfoldable pub with_sketch_options : App → App
+with_sketch_options app =
+    with_option (codes "heap") (with_option (codes "width") (with_option (codes "rows") (with_option (codes "levels") (with_option (codes "seed") app))))
+
+-- the options of epochs, of heavy keys and of a topology
+unfoldable pub with_trace_options : App → App
+with_trace_options app = with_option (codes "topology") (with_option (codes "heavy") (with_option (codes "epoch") app))
+
+-- `central` takes the name of a trace, and options
+unfoldable pub central_app : App
+central_app = with_trace_options (with_sketch_options (with_name (codes "trace") (bare_app (codes "central"))))
+
+abbrev pub app_for : Command → App
+app_for Total = total_app
+app_for Central = central_app

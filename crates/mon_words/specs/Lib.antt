@@ -1,0 +1,4 @@
+pub mod Apps
+pub mod Needs
+pub mod Options
+pub mod Values

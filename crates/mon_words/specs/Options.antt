@@ -1,0 +1,56 @@
+-- The options with a number, and the numbers that they take.
+use Rattle.std.specs.Prelude.{ℕ, ◌^◌, ◌&&◌, ◌++◌, Bool, nat_lt, nat_le, List, [], ◌∷◌, length, codes, Option, Some, None, if◌then◌else◌}
+use Rattle.std.specs.List.{list_all}
+use Rattle.std.specs.Char.{is_ascii_digit}
+use Rattle.std.specs.Str.Parse.{digits_value}
+use Rattle.hash_family.specs.Limits.{is_rows, is_width}
+use Rattle.mon_words.specs.declared.command.Command.{Command}
+use Rattle.mon_words.specs.declared.command.Command.TheVariants.{Total, Central}
+use Rattle.mon_words.specs.declared.opt.Opt.{Opt}
+use Rattle.mon_words.specs.declared.opt.Opt.TheVariants.{Seed, Levels, Rows, Width, Heap, Epoch, Heavy}
+
+-- the options in the order of the table
+abbrev pub options : List Opt
+options = Seed ∷ Levels ∷ Rows ∷ Width ∷ Heap ∷ Epoch ∷ Heavy ∷ []
+
+-- an option's name without the dashes
+abbrev pub id_of : Opt → List ℕ
+id_of Seed = codes "seed"
+id_of Levels = codes "levels"
+id_of Rows = codes "rows"
+id_of Width = codes "width"
+id_of Heap = codes "heap"
+id_of Epoch = codes "epoch"
+id_of Heavy = codes "heavy"
+
+-- an option as it is written
+abbrev pub name_of : Opt → List ℕ
+name_of option = codes "--" ++ id_of option
+
+-- the least heap that a command takes: 0, which keeps all live keys, is for `central` alone
+abbrev pub least_heap : Command → ℕ
+least_heap Total = 1
+least_heap Central = 0
+
+-- the heap of a command where it is not given
+abbrev pub default_heap : Command → ℕ
+default_heap Total = 64
+default_heap Central = 0
+
+-- the numbers that an option of a command takes
+abbrev pub is_in_range : Command → Opt → ℕ → Bool
+is_in_range command Seed number = nat_lt number (2 ^ 64)
+is_in_range command Levels number = nat_le number 16
+is_in_range command Rows number = is_rows number
+is_in_range command Width number = is_width number
+is_in_range command Heap number = nat_le (least_heap command) number && nat_le number 1024
+is_in_range command Epoch number = nat_le 1 number && nat_lt number (2 ^ 32)
+is_in_range command Heavy number = nat_le 1 number && nat_le number 1000
+
+-- 1 to 20 digits
+abbrev pub is_numeral : List ℕ → Bool
+is_numeral value = nat_le 1 (length value) && nat_le (length value) 20 && list_all is_ascii_digit value
+
+-- the number that a value's digits spell, of the numbers that are taken
+abbrev pub number_if : (ℕ → Bool) → List ℕ → Option ℕ
+number_if is_taken value = if is_numeral value && is_taken (digits_value 10 value) then Some (digits_value 10 value) else None

@@ -1,0 +1,117 @@
+-- What the words of a call ask for.
+use Rattle.std.specs.Prelude.{◌≡◌, ◌≤◌, ◌==◌, ℕ, List, [], ◌∷◌, length, find, bytes_eq, codes, Bool, false, Option, Some, None, IfSome, is_none, Result, Ok, Err, IsTrue, ⊤, if◌then◌else◌}
+use Rattle.std.specs.Option.{option_map, option_map_or}
+use Rattle.std.specs.Str.Parse.{digits_value}
+use Rattle.clap.specs.Words.{Row, fault_of, first_of, matches_of}
+use Rattle.hash_family.specs.Limits.{is_rows, is_width}
+use Rattle.mon_words.specs.Apps.{app_for}
+use Rattle.mon_words.specs.Options.{default_heap, id_of, is_in_range, number_if, options}
+use Rattle.mon_words.specs.declared.command.Command.{Command}
+use Rattle.mon_words.specs.declared.command.Command.TheVariants.{Total, Central}
+use Rattle.mon_words.specs.declared.opt.Opt.{Opt}
+use Rattle.mon_words.specs.declared.opt.Opt.TheVariants.{Seed, Levels, Rows, Width, Heap, Epoch, Heavy}
+use Rattle.mon_words.specs.declared.usage_fault.UsageFault.{UsageFault}
+use Rattle.mon_words.specs.declared.usage_fault.UsageFault.TheVariants.{NoCommand, UnknownCommand, Refused, Value}
+use Rattle.mon_words.specs.declared.words_fault.WordsFault.{WordsFault}
+use Rattle.mon_words.specs.declared.words_fault.WordsFault.TheVariants.{Usage, Memory}
+
+-- a command with its names in order, a topology where one is named, and the numbers of its options
+pub record Values : Type 0 where
+  pub command : Command
+  pub names : List (List ℕ)
+  pub topology : Option (List ℕ)
+  pub seed : ℕ
+  pub levels : ℕ
+  pub rows : ℕ
+  pub width : ℕ
+  pub heap : ℕ
+  pub epoch : Option ℕ
+  pub heavy : ℕ
+
+-- the numbers are within their limits, where a heap of 0 keeps all live keys, and there is one name
+pub record IsInRange (values : Values) : Type 0 where
+  pub one_name : length values.names ≡ 1
+  pub levels_up_to : values.levels ≤ 16
+  pub are_rows : IsTrue (is_rows values.rows)
+  pub are_wide : IsTrue (is_width values.width)
+  pub heap_up_to : values.heap ≤ 1024
+  pub epoch_from : IfSome values.epoch (λ seconds. 1 ≤ seconds)
+  pub heavy_from : 1 ≤ values.heavy
+  pub heavy_up_to : values.heavy ≤ 1000
+
+-- no topology is named, and each option has its default
+pub record HasDefaults (values : Values) : Type 0 where
+  pub no_topology : values.topology ≡ None
+  pub seed_is : values.seed ≡ 1
+  pub levels_are : values.levels ≡ 12
+  pub rows_are : values.rows ≡ 5
+  pub width_is : values.width ≡ 1024
+  pub heap_is : values.heap ≡ default_heap values.command
+  pub no_epoch : values.epoch ≡ None
+  pub heavy_is : values.heavy ≡ 10
+
+-- the command that a word names
+abbrev pub command_of : List ℕ → Option Command
+command_of word =
+    if bytes_eq word (codes "total") then Some Total
+    else if bytes_eq word (codes "central") then Some Central
+    else None
+
+-- clap's definition of the command takes the words behind its name
+unfoldable pub is_taken : Command → List (List ℕ) → Bool
+is_taken command words = length (fault_of (app_for command) words) == 0
+
+-- what clap reads in them
+unfoldable pub rows_in : Command → List (List ℕ) → List Row
+rows_in command words = matches_of (app_for command) words
+
+-- neither a topology nor an option is given
+pub record IsBare (rows : List Row) : Type 0 where
+  pub no_topology : first_of (codes "topology") rows ≡ None
+  pub no_option : (option : Opt) → first_of (id_of option) rows ≡ None
+
+-- an option is given a value that is not a number in its range
+abbrev pub is_refused : Command → List Row → Opt → Bool
+is_refused command rows option =
+    option_map_or (λ value. is_none (number_if (is_in_range command option) value)) (first_of (id_of option) rows) false
+
+-- the first option in the order of the table with such a value
+abbrev pub first_refused : Command → List Row → Option Opt
+first_refused command rows = find (is_refused command rows) options
+
+-- the number of an option that is given one in its range, and else this one
+abbrev pub number_or : List Row → Opt → ℕ → ℕ
+number_or rows option default = option_map_or (digits_value 10) (first_of (id_of option) rows) default
+
+-- the names, the texts and the numbers, each that is not given with its default
+abbrev pub values_in : Command → List Row → Values
+values_in command rows = record {
+  command = command;
+  names = option_map_or (λ trace. trace ∷ []) (first_of (codes "trace") rows) [];
+  topology = first_of (codes "topology") rows;
+  seed = number_or rows Seed 1;
+  levels = number_or rows Levels 12;
+  rows = number_or rows Rows 5;
+  width = number_or rows Width 1024;
+  heap = number_or rows Heap (default_heap command);
+  epoch = option_map (digits_value 10) (first_of (id_of Epoch) rows);
+  heavy = number_or rows Heavy 10;
+}
+
+-- what is read of a command's words, unless the value of an option is refused
+abbrev pub read_of : Command → List Row → Result Values UsageFault
+read_of command rows = option_map_or (λ option. Err (Value option)) (first_refused command rows) (Ok (values_in command rows))
+
+-- the words behind a command
+abbrev pub rest_of : Command → List (List ℕ) → Result Values UsageFault
+rest_of command words = if is_taken command words then read_of command (rows_in command words) else Err Refused
+
+-- the words of a call
+abbrev pub words_of : List (List ℕ) → Result Values UsageFault
+words_of [] = Err NoCommand
+words_of (word ∷ words) = option_map_or (λ command. rest_of command words) (command_of word) (Err UnknownCommand)
+
+-- the words are refused for this cause; want of memory is free
+abbrev pub Explains : Result Values UsageFault → WordsFault → Type 0
+Explains asked (Usage fault) = asked ≡ Err fault
+Explains asked Memory = ⊤

@@ -1,0 +1,49 @@
+//! The commands.
+ghost use Rattle.std.specs.Prelude.{◌≡◌, ◌≤◌};
+ghost use Rattle.mon_words.specs.Options.{default_heap, least_heap};
+ghost use Rattle.mon_words.specs.Values.{command_of};
+
+/// A command.
+#[derive(Clone, Copy, Debug, PartialEq, Eq)]
+pub enum Command {
+    /// `total`: counts the packets of a trace.
+    Total,
+    /// `central`: sketches a trace.
+    Central,
+}
+
+impl Command {
+    // The command with this name.
+    pub(crate) fn named(word: &str) -> Option<Command>
+        ensures command { result ≡ command_of word.now }
+    {
+        if word == "total" {
+            Some(Command::Total)
+        } else if word == "central" {
+            Some(Command::Central)
+        } else {
+            None
+        }
+    }
+
+    // The heap where none is given.
+    pub(crate) fn default_heap(self) -> u64
+        ensures number { result ≡ default_heap self }
+        ensures small { result ≤ 1024 }
+    {
+        match self {
+            Command::Total => 64,
+            Command::Central => 0,
+        }
+    }
+
+    // The least heap that it takes.
+    pub(crate) fn least_heap(self) -> u64
+        ensures number { result ≡ least_heap self }
+    {
+        match self {
+            Command::Total => 1,
+            Command::Central => 0,
+        }
+    }
+}

@@ -1,0 +1,140 @@
+//! Worked words with what they ask for, and with why they are refused.
+use crate::{Command, Opt, UsageFault, Words, WordsFault, read_words};
+use std::alloc::{AllocError, Global};
+use std::test::Fail;
+
+// Reads a line whose words are divided by one space each, so that a space at its end stands before an empty word.
+fn read(alloc: Global, line: &str) -> Result<Result<Words, WordsFault>, AllocError> {
+    let mut words = Vec::new(alloc);
+    for word in line.split(' ') {
+        words.push(String::from_str(alloc, word)?)?;
+    }
+    Ok(read_words(alloc, &words))
+}
+
+#[test]
+fn refuses_words(rt: HostRuntime) -> Result<(), Fail> {
+    for (line, fault) in [
+        ("foo", UsageFault::UnknownCommand),
+        ("foo A", UsageFault::UnknownCommand),
+        ("", UsageFault::UnknownCommand),
+        ("central", UsageFault::Refused),
+        ("central A B", UsageFault::Refused),
+        ("central A --epoch -5", UsageFault::Refused),
+        ("central A --epoch 60 --epoch 60", UsageFault::Refused),
+        ("central A --ep 60", UsageFault::Refused),
+        ("central A --epoch", UsageFault::Refused),
+        ("central --help", UsageFault::Refused),
+        ("central A --rows 2 --ep 60", UsageFault::Refused),
+        ("total", UsageFault::Refused),
+        ("total A --seed 1", UsageFault::Refused),
+    ] {
+        let fault = WordsFault::Usage(fault);
+        assert_eq!(rt; read(rt.alloc(), line)?.err(), Some(fault), "{line}");
+    }
+    let none = read_words(rt.alloc(), &[]).err();
+    assert_eq!(rt; none, Some(WordsFault::Usage(UsageFault::NoCommand)));
+    Ok(())
+}
+
+#[test]
+fn refuses_values(rt: HostRuntime) -> Result<(), Fail> {
+    for (line, option) in [
+        ("central A --seed 18446744073709551616", Opt::Seed),
+        ("central A --seed 000000000000000000001", Opt::Seed),
+        ("central A --levels 17", Opt::Levels),
+        ("central A --rows 2", Opt::Rows),
+        ("central A --rows 2 --levels 17", Opt::Levels),
+        ("central A --width 24 --rows 2", Opt::Rows),
+        ("central A --width 4096", Opt::Width),
+        ("central A --heap 1025", Opt::Heap),
+        ("central A --heap +1", Opt::Heap),
+        ("central A --epoch=", Opt::Epoch),
+        ("central A --epoch ", Opt::Epoch),
+        ("central A --epoch 0", Opt::Epoch),
+        ("central A --epoch 4294967296", Opt::Epoch),
+        ("central A --heavy 0 --epoch 6O", Opt::Epoch),
+        ("central A --heavy 0", Opt::Heavy),
+        ("central A --heavy 1001", Opt::Heavy),
+    ] {
+        let fault = WordsFault::Usage(UsageFault::Value(option));
+        assert_eq!(rt; read(rt.alloc(), line)?.err(), Some(fault), "{line}");
+    }
+    Ok(())
+}
+
+#[test]
+fn takes_words(rt: HostRuntime) -> Result<(), Fail> {
+    for (line, name, epoch) in [
+        ("central A", "A", None),
+        ("central A --epoch=60", "A", Some(60)),
+        ("central A --epoch 007", "A", Some(7)),
+        ("central --epoch 4294967295 A", "A", Some(4_294_967_295)),
+        ("central --rows 3 A --epoch 1 --heavy 1", "A", Some(1)),
+        ("central -- A", "A", None),
+        ("central --epoch 5 -- --epoch", "--epoch", Some(5)),
+        ("central -", "-", None),
+        ("total A", "A", None),
+        ("total ", "", None),
+    ] {
+        let words = read(rt.alloc(), line)?.ok().expect(&rt, line);
+        assert_eq!(rt; words.epoch, epoch, "{line}");
+        assert_eq!(rt; words.names.len(), 1, "{line}");
+        assert_eq!(rt; words.names[0].as_str(), name, "{line}");
+    }
+    Ok(())
+}
+
+// Seed, levels, rows, width, heap and heavy.
+fn numbers(words: &Words) -> [u64; 6] {
+    [
+        words.seed,
+        u64::from(words.levels),
+        u64::from(words.rows),
+        u64::from(words.width),
+        u64::from(words.heap),
+        u64::from(words.heavy),
+    ]
+}
+
+#[test]
+fn reads_numbers(rt: HostRuntime) -> Result<(), Fail> {
+    for (line, command, topology, want) in [
+        ("total A", Command::Total, None, [1, 12, 5, 1024, 64, 10]),
+        ("central A", Command::Central, None, [1, 12, 5, 1024, 0, 10]),
+        (
+            "central A --seed 18446744073709551615 --levels 16 --rows 7 --width 2048 --heap 1024 --heavy 1000",
+            Command::Central,
+            None,
+            [18_446_744_073_709_551_615, 16, 7, 2048, 1024, 1000],
+        ),
+        (
+            "central --topology T --seed=0 --levels=0 --rows=1 --width=16 --heap=0 --heavy=1 A",
+            Command::Central,
+            Some("T"),
+            [0, 0, 1, 16, 0, 1],
+        ),
+    ] {
+        let words = read(rt.alloc(), line)?.ok().expect(&rt, line);
+        assert_eq!(rt; words.command, command, "{line}");
+        assert_eq!(rt; words.topology.as_deref(), topology, "{line}");
+        assert_eq!(rt; numbers(&words), want, "{line}");
+    }
+    Ok(())
+}
+
+#[test]
+fn names_options(rt: HostRuntime) {
+    let options = [
+        (Opt::Seed, "--seed"),
+        (Opt::Levels, "--levels"),
+        (Opt::Rows, "--rows"),
+        (Opt::Width, "--width"),
+        (Opt::Heap, "--heap"),
+        (Opt::Epoch, "--epoch"),
+        (Opt::Heavy, "--heavy"),
+    ];
+    for (option, name) in options {
+        assert_eq!(rt; option.name(), name);
+    }
+}
