@@ -1,3 +1,4 @@
 pub mod Fields
 pub mod Hexadecimal
 pub mod OneText
+pub mod Parts

@@ -41,10 +41,19 @@ abbrev pub is_number : ℕ → ℕ → List ℕ → Bool
 is_number base most digits =
     nat_le 1 (length digits) && nat_le (length digits) most && list_all (λ digit. is_digit digit base) digits
 
+-- the number that digits spell
+abbrev pub number_of : ℕ → ℕ → List ℕ → Option ℕ
+number_of base most digits = if is_number base most digits then Some (digits_value base digits) else None
+
 -- the numbers that parts spell, None where a part is no number; eight at most, which is what an address has
 unfoldable pub numbers_of : ℕ → ℕ → List (List ℕ) → Option (List ℕ)
 numbers_of base most parts =
     if list_all (is_number base most) parts && nat_le (length parts) 8 then Some (map (digits_value base) parts) else None
+
+-- numbers and one more, eight at most
+unfoldable pub pushed : ℕ → ℕ → List ℕ → List ℕ → Option (List ℕ)
+pushed base most numbers part =
+    if is_number base most part && nat_lt (length numbers) 8 then Some (numbers ++ digits_value base part ∷ []) else None
 
 -- four numbers of 0 to 255 are the bytes of the first word, and the other words are 0
 unfoldable pub ipv4_words : List ℕ → Option (List ℕ)
@@ -78,12 +87,14 @@ group_words groups = group_word groups 0 ∷ group_word groups 2 ∷ group_word 
 unfoldable pub eight_groups : List ℕ → Option (List ℕ)
 eight_groups groups = if length groups == 8 then Some (group_words groups) else None
 
--- the groups in front of a gap and behind it, at most seven; the gap is as many groups of 0 as make eight
+-- eight groups, those between front and back of 0
+abbrev pub filled : List ℕ → List ℕ → List ℕ
+filled front back = front ++ (replicate (8 - (length front + length back)) 0 ++ back)
+
+-- the groups in front of a gap and behind it, at most seven, so that the gap stands for one group or more
 unfoldable pub groups_around : List ℕ → List ℕ → Option (List ℕ)
 groups_around front back =
-    if nat_le (length front + length back) 7
-    then Some (group_words (front ++ (replicate (8 - (length front + length back)) 0 ++ back)))
-    else None
+    if nat_le (length front + length back) 7 then Some (group_words (filled front back)) else None
 
 -- an IPv6 address: eight groups, or fewer around one '::'
 unfoldable pub ipv6_address : List ℕ → Option (List ℕ)
@@ -92,9 +103,9 @@ ipv6_address text =
     then option_and_then (λ front. option_and_then (groups_around front) (groups_of (drop (gap_place text + 2) text))) (groups_of (take (gap_place text) text))
     else option_and_then eight_groups (groups_of text)
 
--- a decimal number of up to three digits, of at most this many bits
+-- a length: a decimal number of up to three digits, at most so many bits
 unfoldable pub bits_of : ℕ → List ℕ → Option ℕ
-bits_of most digits = if is_number 10 3 digits && nat_le (digits_value 10 digits) most then Some (digits_value 10 digits) else None
+bits_of most digits = option_and_then (λ bits. if nat_le bits most then Some bits else None) (number_of 10 3 digits)
 
 -- a prefix of an address that is read, with the text of its length
 unfoldable pub with_length : ℕ → List ℕ → List ℕ → Result Seen PrefixFault

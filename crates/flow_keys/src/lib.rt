@@ -11,10 +11,12 @@
 //! No call takes memory. Two keys with one text are one key, as `one_text_one_key` says.
 #![tactic(auto)]
 
+mod address;
 mod frame;
 mod key;
 mod link;
 mod numbers;
+mod numerals;
 mod packet;
 mod prefix;
 mod prefix_fault;
