@@ -1,6 +1,8 @@
 -- A topology, as clauses see it, and the file that spells it.
 use Rattle.std.specs.Prelude.{ℕ, ◌≡◌, nat_lt, List, [], ◌∷◌, map, length, position, Option, Some, None, is_none, unwrap_or, Result, Ok, Err, if◌then◌else◌}
+use Rattle.std.specs.Prelude.{String, string_bytes}
 use Rattle.std.specs.Str.{is_utf8}
+use Rattle.std.specs.declared.alloc.Global.{Global}
 use Rattle.bound_certificate.specs.Problem.{Problem}
 use Rattle.topology.specs.declared.ends.Ends.{Ends}
 use Rattle.topology.specs.declared.fault.TopologyFault.{TopologyFault}
@@ -18,6 +20,11 @@ pub record Topo : Type 0 where
   pub path_names : List (List ℕ)
   pub ends : List Ends
   pub problem : Problem
+
+-- the topology of these parts
+abbrev pub seen : List (String Global) → List (String Global) → List Ends → Problem → Topo
+seen switches paths between placed =
+    record { switch_names = map string_bytes switches; path_names = map string_bytes paths; ends = between; problem = placed }
 
 -- the most bytes that a file can have
 abbrev pub most_bytes : ℕ
@@ -74,8 +81,8 @@ topology_of bytes = answer (file_fault bytes) (topo_of (root_of bytes))
 unfoldable pub route_of : Topo → List ℕ → Option ℕ
 route_of topo key = position (takes key) topo.ends
 
--- the numbers of switches and of paths are the same in every list
-pub record IsEven (topo : Topo) : Type 0 where
+-- there are as many sites as switches, and as many needs and pairs of prefixes as paths
+pub record HasEqualCounts (topo : Topo) : Type 0 where
   pub sites : length topo.problem.sites ≡ length topo.switch_names
   pub needs : length topo.problem.needs ≡ length topo.path_names
   pub ends : length topo.ends ≡ length topo.path_names

@@ -21,7 +21,7 @@ pub(crate) struct Ends {
 impl Ends {
     // Whether the first prefix holds the source of a key, and the second its destination.
     fn takes(&self, key: &FlowKey) -> bool
-        ensures { result ≡ takes key.now self.now }
+        ensures value { result ≡ takes key.now self.now }
     {
         self.from.holds(key, Side::Source) && self.to.holds(key, Side::Destination)
     }

@@ -61,7 +61,7 @@ pub(crate) fn number_at(
 
 // Whether an integer is between two limits.
 fn is_between(integer: i64, least: u32, most: u32) -> bool
-    ensures { result ≡ is_between least most integer }
+    ensures value { result ≡ is_between least most integer }
 {
     i64::from(least) <= integer && integer <= i64::from(most)
 }

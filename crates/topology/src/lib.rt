@@ -26,3 +26,6 @@ mod via;
 
 pub use fault::{Entry, TopologyFault, What};
 pub use topology::Topology;
+
+#[cfg(test)]
+mod tests;

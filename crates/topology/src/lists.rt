@@ -81,14 +81,14 @@ fn check_tables(elements: &[Value], entry: Entry) -> Result<(), TopologyFault>
 
 // The first element that is no table.
 fn first_other(elements: &[Value]) -> Option<usize>
-    ensures { result ≡ position (λ element. is_no_table (view element)) elements.now }
+    ensures value { result ≡ position (λ element. is_no_table (view element)) elements.now }
 {
     elements.iter().position(|element| !element.is_table())
 }
 
 // A count in 32 bits, with the greatest number for more.
 fn shown(count: usize) -> u32
-    ensures { result ≡ shown count }
+    ensures value { result ≡ shown count }
 {
     count.min(u32::MAX as usize) as u32
 }

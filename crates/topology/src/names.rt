@@ -44,7 +44,7 @@ pub(crate) fn number_name(
 // Whether a name is among those that are numbered.
 #[tactic(auto, using(crate::proofs::SeenLists::seen_lists))]
 fn is_taken(names: &IndexSet<String>, name: &str) -> bool
-    ensures { result ≡ is_among (map string_bytes names.now.keys) name.now }
+    ensures value { result ≡ is_among (map string_bytes names.now.keys) name.now }
 {
     names.contains(name)
 }
@@ -67,7 +67,7 @@ fn push_name(alloc: Global, names: &mut IndexSet<String>, name: &str) -> Result<
 
 // Whether it is 1 to 32 bytes of those that a name can have.
 fn is_name(name: &str) -> bool
-    ensures { result ≡ is_name name.now }
+    ensures value { result ≡ is_name name.now }
 {
     match name.len() {
         1..=32 => are_name_bytes(name.as_bytes()),
@@ -76,13 +76,13 @@ fn is_name(name: &str) -> bool
 }
 
 fn are_name_bytes(bytes: &[u8]) -> bool
-    ensures { result ≡ list_all is_name_byte bytes.now }
+    ensures value { result ≡ list_all is_name_byte bytes.now }
 {
     bytes.iter().all(|byte| is_name_byte(*byte))
 }
 
 fn is_name_byte(byte: u8) -> bool
-    ensures { result ≡ is_name_byte byte }
+    ensures value { result ≡ is_name_byte byte }
 {
     matches!(byte, b'a'..=b'z' | b'0'..=b'9' | b'_' | b'-')
 }

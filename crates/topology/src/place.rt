@@ -15,14 +15,14 @@ pub(crate) struct Place {
 impl Place {
     /// Another value of the same entry.
     pub(crate) fn to(self, what: What) -> Place
-        ensures { result ≡ at_place self.entry self.index what }
+        ensures value { result ≡ at_place self.entry self.index what }
     {
         Place { what, ..self }
     }
 
     /// The key at which the value stands.
     pub(crate) fn key(self) -> &'static str
-        ensures { result.now ≡ key_of self }
+        ensures value { result.now ≡ key_of self }
     {
         match self.what {
             What::List => list_key(self.entry),
@@ -39,7 +39,7 @@ impl Place {
 
     /// That no value stands there.
     pub(crate) fn missing(self) -> TopologyFault
-        ensures { result ≡ missing self }
+        ensures value { result ≡ missing self }
     {
         let Place { entry, index, what } = self;
         TopologyFault::Missing { entry, index, what }
@@ -47,7 +47,7 @@ impl Place {
 
     /// That the value is of another kind.
     pub(crate) fn wrong_kind(self) -> TopologyFault
-        ensures { result ≡ wrong_kind self }
+        ensures value { result ≡ wrong_kind self }
     {
         let Place { entry, index, what } = self;
         TopologyFault::WrongKind { entry, index, what }
@@ -55,7 +55,7 @@ impl Place {
 
     /// That the number is outside its limits.
     pub(crate) fn out_of_range(self) -> TopologyFault
-        ensures { result ≡ out_of_range self }
+        ensures value { result ≡ out_of_range self }
     {
         let Place { entry, index, what } = self;
         TopologyFault::Range { entry, index, what }
@@ -63,7 +63,7 @@ impl Place {
 }
 
 fn list_key(entry: Entry) -> &'static str
-    ensures { result.now ≡ list_key entry }
+    ensures value { result.now ≡ list_key entry }
 {
     match entry {
         Entry::Switch => "switch",

@@ -27,24 +27,13 @@ pub struct Topology {
 }
 
 impl Model for Topology {
-    ghost use Rattle.std.specs.Prelude.{map, string_bytes};
-    ghost use Rattle.topology.specs.Topology.{Topo, IsEven};
+    ghost use Rattle.topology.specs.Topology.{Topo, seen, HasEqualCounts};
 
     ghost Value = { Topo };
 
-    ghost view = { λ topology. record {
-      switch_names = map string_bytes topology.switch_names.keys;
-      path_names = map string_bytes topology.path_names.keys;
-      ends = topology.ends.items;
-      problem = topology.problem;
-    } };
+    ghost view = { λ topology. seen topology.switch_names.keys topology.path_names.keys topology.ends.items topology.problem };
 
-    ghost invariant = { λ topology. IsEven (record {
-      switch_names = map string_bytes topology.switch_names.keys;
-      path_names = map string_bytes topology.path_names.keys;
-      ends = topology.ends.items;
-      problem = topology.problem;
-    }) };
+    ghost invariant = { λ topology. HasEqualCounts (seen topology.switch_names.keys topology.path_names.keys topology.ends.items topology.problem) };
 }
 
 impl Topology {
@@ -86,7 +75,7 @@ impl Topology {
 
     /// How many switches there are, 1 to 32. Takes no memory, as no call below does.
     pub fn switches(&self) -> usize
-        ensures value { result ≡ length self.now.switch_names }
+        ensures count { result ≡ length self.now.switch_names }
         ensures sites { result ≡ length self.now.problem.sites }
     {
         self.switch_names.len()
@@ -94,7 +83,7 @@ impl Topology {
 
     /// How many paths there are, 1 to 64.
     pub fn paths(&self) -> usize
-        ensures value { result ≡ length self.now.path_names }
+        ensures count { result ≡ length self.now.path_names }
         ensures needs { result ≡ length self.now.problem.needs }
     {
         self.path_names.len()
@@ -103,7 +92,7 @@ impl Topology {
     /// The name of a switch.
     pub fn switch_name(&self, switch: usize) -> &str
         requires { switch < length self.now.switch_names }
-        ensures { result.now ≡ slice_index_or self.now.switch_names switch [] }
+        ensures name { result.now ≡ slice_index_or self.now.switch_names switch [] }
     {
         name_at(&self.switch_names, switch)
     }
@@ -111,14 +100,15 @@ impl Topology {
     /// The name of a path.
     pub fn path_name(&self, path: usize) -> &str
         requires { path < length self.now.path_names }
-        ensures { result.now ≡ slice_index_or self.now.path_names path [] }
+        ensures name { result.now ≡ slice_index_or self.now.path_names path [] }
     {
         name_at(&self.path_names, path)
     }
 
-    /// The problem to place each path on a switch of its via, by their numbers.
+    /// The problem to place each path on a switch of its via: switches are its sites and paths its
+    /// needs, by their numbers.
     pub fn problem(&self) -> &Problem
-        ensures { result.now ≡ self.now.problem }
+        ensures problem { result.now ≡ self.now.problem }
     {
         &self.problem
     }
@@ -127,7 +117,7 @@ impl Topology {
     /// destination, None where no path does.
     #[tactic(auto, unfolding(crate::specs::Topology::route_of))]
     pub fn route(&self, key: &FlowKey) -> Option<usize>
-        ensures value { result ≡ route_of self.now key.now }
+        ensures path { result ≡ route_of self.now key.now }
         ensures within { IfSome result (λ path. path < length self.now.path_names) }
     {
         first_taking(&self.ends, key)
@@ -157,7 +147,7 @@ fn read_root(alloc: Global, bytes: &[u8]) -> Result<Value, TopologyFault>
 // The name of a number.
 fn name_at(names: &IndexSet<String>, number: usize) -> &str
     requires { number < length names.now.keys }
-    ensures { result.now ≡ slice_index_or (map string_bytes names.now.keys) number [] }
+    ensures value { result.now ≡ slice_index_or (map string_bytes names.now.keys) number [] }
 {
     match names.get_index(number) {
         Some(name) => name.as_str(),

@@ -49,13 +49,13 @@ pub(crate) fn read_via(
 // Whether an element is no text.
 #[tactic(auto, using(crate::proofs::SeenLists::seen_lists))]
 fn has_other(elements: &[Value]) -> bool
-    ensures { result ≡ list_any is_no_text (map view elements.now) }
+    ensures value { result ≡ list_any is_no_text (map view elements.now) }
 {
     any_other(elements)
 }
 
 fn any_other(elements: &[Value]) -> bool
-    ensures { result ≡ list_any (λ element. is_no_text (view element)) elements.now }
+    ensures value { result ≡ list_any (λ element. is_no_text (view element)) elements.now }
 {
     elements.iter().any(|element| !element.is_str())
 }
@@ -112,7 +112,7 @@ fn number_hop(
 
 // The text of an element, and none where it is of another kind.
 fn text_of(element: &Value) -> &str
-    ensures { result.now ≡ text_of (view element.now) }
+    ensures value { result.now ≡ text_of (view element.now) }
 {
     match element.as_str() {
         Some(text) => text,
