@@ -1,0 +1,4 @@
+pub mod Documents
+pub mod EachEntry
+pub mod FirstFault
+pub mod SeenLists

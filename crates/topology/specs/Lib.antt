@@ -1,0 +1,9 @@
+pub mod Faults
+pub mod Fields
+pub mod Names
+pub mod Paths
+pub mod Place
+pub mod Switches
+pub mod Takes
+pub mod Topology
+pub mod Via
