@@ -17,7 +17,7 @@ pub record Counting (contents rest : Option (List ℕ)) (reader : PcapReader) (p
   pub packets_is : packets ≡ length members
   pub keyed_is : keyed ≡ keyed_in reader.header members
 
-keyed_push : (header : Header) (members : List Record) (member : Record) (b : Bool) → is_some (frame_key header.link member.captured) ≡ b
+pub keyed_push : (header : Header) (members : List Record) (member : Record) (b : Bool) → is_some (frame_key header.link member.captured) ≡ b
     → keyed_in header (members ++ member ∷ []) ≡ keyed_in header members + cond {A = ℕ} b 1 0
 keyed_push header members member b is =
     let one = λ (m : Record). cond {A = ℕ} (is_some (frame_key header.link m.captured)) 1 0 in

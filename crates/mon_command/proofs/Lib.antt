@@ -1,11 +1,12 @@
 pub mod Answered
 pub mod Completeness
 pub mod Counting
+pub mod Splitting
+pub mod Fronts
 pub mod Kept
 pub mod LiveCounts
-pub mod Numerals
+pub mod OneMore
 pub mod Packets
-pub mod Pairs
 pub mod Ranges
 pub mod Readings
 pub mod Scans

@@ -21,10 +21,11 @@ use Rattle.sketch_levels.specs.Kept as levels
 use Rattle.sketch_levels.proofs.Live.{live_items-live, live_items-dead, live_items-none}
 use Rattle.pcap_reader.specs.Trace.{Record}
 use Rattle.pcap_reader.specs.declared.header.Header.{Header}
-use Rattle.mon_command.specs.Central.{items_of, item_of, levels_setting, kept_keys, nonzero, level_count, drops}
+use Rattle.mon_command.specs.Central.{levels_setting, kept_keys, nonzero, level_count, drops}
+use Rattle.mon_command.specs.Routed.{item_of}
 use Rattle.mon_command.specs.Live.{CountsLive, AreLive}
-use Rattle.mon_command.specs.Options.{is_setting}
-use Rattle.mon_command.specs.Sketched.{Sketches, HasRoom, IsNoted, items_of_key, any_mark}
+use Rattle.mon_command.specs.Asked.{is_setting}
+use Rattle.mon_command.specs.Sketched.{Sketches, HasRoom, IsNoted, any_mark}
 use Rattle.mon_command.specs.declared.setting.Setting.{Setting}
 use Rattle.mon_command.specs.declared.sketching.Sketched.{Sketched}
 use Rattle.change_report.specs.declared.level_count.LevelCount.{LevelCount}
@@ -65,40 +66,19 @@ pub ones_more : (seed : ℕ) (items : List Item) (item : Item) → item.weight �
     → (level : ℕ) → weight_of (live_items seed level (items ++ item ∷ [])) ≡ length (live_items seed level (items ++ item ∷ []))
 ones_more seed items item one ones level = ones_push seed level items item (is_live seed level item.key) refl one (ones level)
 
--- the items of a trace are not more than its records, and those of one record more
-pub length-items_of-le : (header : Header) (members : List Record) → length (items_of header members) ≤ length members
-unfolding items_of
-length-items_of-le header [] = omega arith
-length-items_of-le header (member ∷ members) = by_key (frame_key header.link member.captured) (length-items_of-le header members)
-  where
-    by_key : (key : Option (List ℕ)) → length (items_of header members) ≤ length members → length (cons_option (option_map item_of key) (items_of header members)) ≤ length (member ∷ members)
-    by_key None within = omega arith
-    by_key (Some key) within = omega arith
-
-pub items_of-push : (header : Header) (members : List Record) (member : Record) → items_of header (members ++ member ∷ []) ≡ items_of header members ++ items_of_key (frame_key header.link member.captured)
-unfolding items_of
-items_of-push header members member =
-    filter_map-append (λ (m : Record). option_map item_of (frame_key header.link m.captured)) members (member ∷ [])
-    ∙ ap (λ (items : List Item). items_of header members ++ items) (one (frame_key header.link member.captured))
-  where
-    one : (key : Option (List ℕ)) → cons_option (option_map item_of key) [] ≡ items_of_key key
-    one None = refl
-    one (Some key) = refl
-
 levels_le : (setting : Setting) → IsTrue (is_setting setting) → setting.levels ≤ 16
 levels_le setting range = grind (arith, nat_tests)
 
 -- room for one packet more
-pub has_room : (setting : Setting) (sketched : Sketched) (packets : ℕ) (items : List Item) → Sketches setting sketched packets items → IsTrue (is_setting setting) → packets < 1048576 → length items ≤ packets → HasRoom sketched
-has_room setting sketched packets items sketches range few within = record {
-  packets = omega (arith, sketches.packets_is, few);
-  keyed = omega (arith, sketches.keyed_is, few, within);
-  weight = omega (arith, sketches.holds.weight, sketches.weight_is, few, within);
+pub has_room : (setting : Setting) (sketched : Sketched) (items : List Item) → Sketches setting sketched items → IsTrue (is_setting setting) → length items < 1048576 → HasRoom sketched
+has_room setting sketched items sketches range few = record {
+  number = omega (arith, sketches.number_is, few);
+  weight = omega (arith, sketches.holds.weight, sketches.weight_is, few);
   levels = omega (arith, sketches.number, levels_le setting range);
   live = λ level d inside.
       let count : slice_index sketched.live.items level ≡ length (live_items setting.seed level items) = sketches.live.each level inside in
       let same : slice_index_or sketched.live.items level d ≡ slice_index sketched.live.items level = get_or_default sketched.live.items level d 0 inside in
-      omega (arith, count, same, length-live_items-le setting.seed level items, few, within);
+      omega (arith, count, same, length-live_items-le setting.seed level items, few);
 }
 
 pub or_false : (b : Bool) → (b || false) ≡ b
@@ -117,21 +97,20 @@ any_mark-more setting items number =
     ∙ list_any-append (λ (b : Bool). b) (map mark (range_with_len 0 number)) (mark number ∷ [])
     ∙ ap (λ (b : Bool). any_mark setting items number || b) (or_false (mark number))
 
--- one more packet with a key
-pub sketches_more : {setting : Setting} {old : Sketched} {packets : ℕ} {items : List Item} (new : Sketched) (key : List ℕ) → Sketches setting old packets items
+-- one more packet
+pub sketches_more : {setting : Setting} {old : Sketched} {items : List Item} (new : Sketched) (key : List ℕ) → Sketches setting old items
     → new.family ≡ old.family → new.levels.setting ≡ old.levels.setting → (Holds old.levels items → Holds new.levels (items ++ item_of key ∷ []))
     → IsNoted setting (items ++ item_of key ∷ []) new.all → CountsLive old.family key old.live.items new.live.items
-    → new.packets ≡ old.packets + 1 → new.keyed ≡ old.keyed + 1
-    → Sketches setting new (packets + 1) (items ++ item_of key ∷ [])
-sketches_more {setting} {old} {packets} {items} new key sketches family shape holds noted counts more keyed = record {
+    → new.number ≡ old.number + 1
+    → Sketches setting new (items ++ item_of key ∷ [])
+sketches_more {setting} {old} {items} new key sketches family shape holds noted counts more = record {
   family = family ∙ sketches.family;
   shape = shape ∙ sketches.shape;
   holds = holds sketches.holds;
   noted = noted;
   number = counts.size ∙ sketches.number;
   live = live_more setting.seed items (item_of key) old.live.items new.live.items sketches.live (subst (λ (seed : ℕ). CountsLive seed key old.live.items new.live.items) sketches.family counts);
-  packets_is = omega (arith, more, sketches.packets_is);
-  keyed_is = omega (arith, keyed, sketches.keyed_is, length-append items (item_of key ∷ []));
+  number_is = omega (arith, more, sketches.number_is, length-append items (item_of key ∷ []));
   weight_is = weight_of-push items (item_of key) refl sketches.weight_is;
   ones = ones_more setting.seed items (item_of key) refl sketches.ones;
 }
@@ -207,8 +186,3 @@ not_some some none wanted is same = ap (λ (b : Bool). not b) is ∙ not_not non
     not_not : (b : Bool) → not (not b) ≡ b
     not_not true = refl
     not_not false = refl
-
--- no record has no item
-pub items_of-none : (header : Header) → items_of header [] ≡ []
-unfolding items_of
-items_of-none header = refl

@@ -10,6 +10,11 @@ pub if_ok_weaker : {T E : Type 0} {P Q : T → Type 0} (r : Result T E) → ((x 
 if_ok_weaker (Ok x) f p = f x p
 if_ok_weaker (Err e) f p = tt
 
+-- a fact of an answer, by three that each answer has
+pub if_ok_by_three : {T E : Type 0} {A B C Q : T → Type 0} (r : Result T E) → ((x : T) → A x → B x → C x → Q x) → IfOk r A → IfOk r B → IfOk r C → IfOk r Q
+if_ok_by_three (Ok x) f a b c = f x a b c
+if_ok_by_three (Err fault) f a b c = tt
+
 -- a fact of an answer, by five that each answer has
 pub if_ok_by_five : {T E : Type 0} {A B C D F Q : T → Type 0} (r : Result T E) → ((x : T) → A x → B x → C x → D x → F x → Q x) → IfOk r A → IfOk r B → IfOk r C → IfOk r D → IfOk r F → IfOk r Q
 if_ok_by_five (Ok x) f a b c d e = f x a b c d e

@@ -15,8 +15,9 @@ use Rattle.sketch_levels.specs.Items.{live_items, weight_of}
 use Rattle.sketch_levels.specs.Levels as levels
 use Rattle.sketch_merge.specs.Merged.{View, HaveUpTo, IsView, counters_at, keys_at}
 use Rattle.change_report.specs.Block.{block_text}
+use Rattle.change_report.specs.Change.{change_lines}
 use Rattle.change_report.specs.declared.level_count.LevelCount.{LevelCount}
-use Rattle.mon_command.specs.Central.{levels_setting, central_text, central_view, drops, epoch_block, kept_keys, level_counts, lines_of}
+use Rattle.mon_command.specs.Central.{levels_setting, block_of, central_view, change_of, drops, kept_keys, level_counts}
 use Rattle.mon_command.specs.Sketched.{Sketches, counters_up_to, keys_up_to}
 use Rattle.mon_command.specs.declared.setting.Setting.{Setting}
 use Rattle.mon_command.specs.declared.sketching.Sketched.{Sketched}
@@ -45,10 +46,10 @@ unfolding levels.layer_of
 counters_held view items level holds within = ap (λ (layer : levels.Layer). layer.sketch.counters) (holds.each level within)
 
 -- the counters of all levels are those of the live items
-pub counters_joined : (setting : Setting) (sketched : Sketched) (packets : ℕ) (items : List Item) (counters : List ℤ) → Sketches setting sketched packets items
+pub counters_joined : (setting : Setting) (sketched : Sketched) (items : List Item) (counters : List ℤ) → Sketches setting sketched items
     → counters ≡ counters_up_to sketched.levels (setting.levels + 1)
     → flat_map (λ part. part) (map (level_counters setting items) (range_with_len 0 (setting.levels + 1))) ≡ counters
-counters_joined setting sketched packets items counters sketches is =
+counters_joined setting sketched items counters sketches is =
     flat_map-map (λ part. part) (level_counters setting items) (range_with_len 0 (setting.levels + 1))
     ∙ flat_map-same (level_counters setting items) (λ level. (levels.level_at sketched.levels level).sketch.counters) (setting.levels + 1) (λ level below.
     let top : sketched.levels.setting.levels ≡ setting.levels = ap (λ (s : sketch.Setting). s.levels) sketches.shape in
@@ -79,17 +80,14 @@ pub view_keys : (setting : Setting) (items : List Item) (level : ℕ) → level 
 unfolding central_view keys_at
 view_keys setting items level within = get_or-map-range_with_len (λ l. kept_keys setting l (live_items setting.seed l items)) 0 (setting.levels + 1) level level [] (omega arith) (omega arith)
 
-pub view_levels : (setting : Setting) (items : List Item) → (central_view setting items).setting.levels ≡ setting.levels
-unfolding central_view
-view_levels setting items = refl
-
 -- the lines of an epoch by their numbers
-pub block_is : (setting : Setting) (items : List Item) (seed number : ℕ) (view : View) (counts : List LevelCount) → seed ≡ setting.seed → number ≡ length items
-    → view ≡ central_view setting items → counts ≡ level_counts setting items → block_text seed 0 number view counts setting.heavy ≡ epoch_block setting items
-block_is setting items seed number view counts s n v c = λ i. block_text (s i) 0 (n i) (v i) (c i) setting.heavy
+pub block_is : (setting : Setting) (epoch : ℕ) (items : List Item) (seed number : ℕ) (view : View) (counts : List LevelCount) → seed ≡ setting.seed → number ≡ length items
+    → view ≡ central_view setting items → counts ≡ level_counts setting items → block_text seed epoch number view counts setting.heavy ≡ block_of setting epoch items
+unfolding block_of
+block_is setting epoch items seed number view counts s n v c = λ i. block_text (s i) epoch (n i) (v i) (c i) setting.heavy
 
--- the text by its numbers and the lines of its epoch
-pub central_text_is : (setting : Setting) (packets : ℕ) (items : List Item) (number keyed : ℕ) (block : List ℕ) → number ≡ packets → keyed ≡ length items → block ≡ epoch_block setting items
-    → lines_of setting number keyed block ≡ central_text setting packets items
-unfolding central_text
-central_text_is setting packets items number keyed block n k b = λ i. lines_of setting (n i) (k i) (b i)
+-- the lines of a change by its two sketches
+pub change_is : (setting : Setting) (epoch : ℕ) (earlier items : List Item) (seed : ℕ) (before view : View) → seed ≡ setting.seed
+    → before ≡ central_view setting earlier → view ≡ central_view setting items → change_lines seed epoch before view setting.heavy ≡ change_of setting epoch earlier items
+unfolding change_of
+change_is setting epoch earlier items seed before view s b v = λ i. change_lines (s i) epoch (b i) (v i) setting.heavy

@@ -1,45 +1,53 @@
 -- What the words of a call ask for.
-use Rattle.std.specs.Prelude.{⊤, IsTrue, ℕ, List, [], ◌∷◌, Result, Ok, Err, bytes_eq, codes, if◌then◌else◌}
-use Rattle.mon_command.specs.Options.{options_asked, is_setting}
+use Rattle.std.specs.Prelude.{ℕ, ◌&&◌, nat_le, Bool, true, List, [], slice_index_or, Option, Result, Ok, Err}
+use Rattle.std.specs.Option.{option_map_or}
+use Rattle.hash_family.specs.Limits.{is_rows, is_width}
+use Rattle.mon_words.specs.Values.{Values, words_of}
+use Rattle.mon_words.specs.declared.command.Command.{Command}
+use Rattle.mon_words.specs.declared.command.Command.TheVariants as words
+use Rattle.mon_words.specs.declared.usage_fault.UsageFault.{UsageFault}
 use Rattle.mon_command.specs.declared.setting.Setting.{Setting}
-use Rattle.mon_command.specs.declared.status.UsageFault.{UsageFault}
-use Rattle.mon_command.specs.declared.status.UsageFault.TheVariants.{NoCommand, UnknownCommand, Refused}
 
--- a command and its words
+-- a command with the names of what it reads
 pub data Asked : Type 0 where
   Total : List ℕ → Asked
-  Central : List ℕ → Setting → Asked
+  Central : List ℕ → Option (List ℕ) → Setting → Asked
 
 -- the name of the trace that is read
 abbrev pub trace_of : Asked → List ℕ
 trace_of (Total trace) = trace
-trace_of (Central trace setting) = trace
+trace_of (Central trace topology setting) = trace
 
--- `total` has one name, of a trace
-abbrev pub total_asked : List (List ℕ) → Result Asked UsageFault
-total_asked [] = Err Refused
-total_asked (trace ∷ []) = Ok (Total trace)
-total_asked (trace ∷ more ∷ names) = Err Refused
+-- the numbers of a sketch and of what is printed of it
+abbrev pub setting_in : Values → Setting
+setting_in values = record {
+  seed = values.seed;
+  levels = values.levels;
+  rows = values.rows;
+  width = values.width;
+  heap = values.heap;
+  epoch = values.epoch;
+  heavy = values.heavy;
+}
 
--- these numbers of a sketch of the trace with this name
-abbrev pub central_of : List ℕ → Result Setting UsageFault → Result Asked UsageFault
-central_of trace (Ok setting) = Ok (Central trace setting)
-central_of trace (Err fault) = Err fault
+-- the command, of the trace that the first name names
+abbrev pub asked_by : Command → Values → Asked
+asked_by words.Total values = Total (slice_index_or values.names 0 [])
+asked_by words.Central values = Central (slice_index_or values.names 0 []) values.topology (setting_in values)
 
--- `central` has one name, of a trace, and behind it options with their values
-abbrev pub central_asked : List (List ℕ) → Result Asked UsageFault
-central_asked [] = Err Refused
-central_asked (trace ∷ words) = central_of trace (options_asked words)
+abbrev pub asked_in : Values → Asked
+asked_in values = asked_by values.command values
 
--- the command that the first word names, with the words behind it
+abbrev pub asked_when : Result Values UsageFault → Result Asked UsageFault
+asked_when (Ok values) = Ok (asked_in values)
+asked_when (Err fault) = Err fault
+
+-- what the words ask for, or why they are refused
 abbrev pub asked_of : List (List ℕ) → Result Asked UsageFault
-asked_of [] = Err NoCommand
-asked_of (command ∷ names) =
-    if bytes_eq command (codes "total") then total_asked names
-    else if bytes_eq command (codes "central") then central_asked names
-    else Err UnknownCommand
+asked_of words = asked_when (words_of words)
 
--- the numbers of a sketch are within their limits
-abbrev pub IsInRange : Asked → Type 0
-IsInRange (Total trace) = ⊤
-IsInRange (Central trace setting) = IsTrue (is_setting setting)
+-- the numbers within their limits, where a heap of 0 keeps every live key
+abbrev pub is_setting : Setting → Bool
+is_setting setting =
+    nat_le setting.levels 16 && is_rows setting.rows && is_width setting.width && nat_le setting.heap 1024
+    && option_map_or (nat_le 1) setting.epoch true && nat_le 1 setting.heavy && nat_le setting.heavy 1000

@@ -1,26 +1,21 @@
 -- The text of `central`.
-use Rattle.std.specs.Prelude.{◌≡◌, ℤ, pos, ℕ, ◌+◌, ◌==◌, ◌&&◌, not, max, Bool, List, [], ◌∷◌, ◌++◌, length, filter_map, map, count_by, Option, IfSome, option_map, codes, decimal, if◌then◌else◌}
-use Rattle.std.specs.List.{list_any, range_with_len}
+use Rattle.std.specs.Prelude.{◌≡◌, ◌≤◌, ℤ, pos, ℕ, ◌+◌, ◌-◌, ◌==◌, ◌&&◌, not, max, Bool, List, [], ◌++◌, length, map, count_by, Option, Some, None, IfSome, Ok, codes, decimal, if◌then◌else◌}
+use Rattle.std.specs.List.{flat_map, list_any, range_with_len}
 use Rattle.std.specs.Ordering.{int_eq}
-use Rattle.flow_keys.specs.Frame.{frame_key}
+use Rattle.hash_family.specs.Setting as sketch
 use Rattle.count_sketch.specs.Counters.{Item, counters_of}
 use Rattle.sketch_levels.specs.Items.{live_items, weight_of, distinct_keys}
-use Rattle.hash_family.specs.Setting as sketch
 use Rattle.sketch_levels.specs.Kept as levels
 use Rattle.sketch_merge.specs.Merged.{View}
 use Rattle.change_report.specs.Block.{block_text}
+use Rattle.change_report.specs.Change.{change_lines}
 use Rattle.change_report.specs.declared.level_count.LevelCount.{LevelCount}
 use Rattle.pcap_reader.specs.declared.header.Header.{Header}
 use Rattle.pcap_reader.specs.Trace.{Record, IsTrace}
+use Rattle.topology.specs.Topology.{Topo, topology_of}
+use Rattle.mon_command.specs.Routed.{Routed, items_in, number_of_epochs, routed_of}
+use Rattle.mon_command.specs.Total.{keyed_in}
 use Rattle.mon_command.specs.declared.setting.Setting.{Setting}
-
--- an item of weight 1
-abbrev pub item_of : List ℕ → Item
-item_of key = record { key = key; weight = 1 }
-
--- one item of weight 1 for each record that has a key, in the order of the trace
-unfoldable pub items_of : Header → List Record → List Item
-items_of header members = filter_map (λ member. option_map item_of (frame_key header.link member.captured)) members
 
 -- the setting of the levels: where every live key is kept beside them, their heaps have one place
 abbrev pub levels_setting : Setting → sketch.Setting
@@ -67,10 +62,10 @@ drops setting items = not (setting.heap == 0) && list_any (λ mark. mark) (map (
 unfoldable pub heap_text : ℕ → List ℕ
 heap_text heap = if heap == 0 then codes "all" else decimal heap
 
--- the line of the packets: how many there are, how many have a key, and how many are counted
-unfoldable pub counts_line : ℕ → ℕ → List ℕ
-counts_line packets keyed =
-    codes "packets " ++ (decimal packets ++ (codes " keyed " ++ (decimal keyed ++ (codes " routed " ++ (decimal keyed ++ codes "\n")))))
+-- the line of the packets: how many there are, how many have a key, and how many have a path
+unfoldable pub counts_line : ℕ → ℕ → ℕ → List ℕ
+counts_line packets keyed routed =
+    codes "packets " ++ (decimal packets ++ (codes " keyed " ++ (decimal keyed ++ (codes " routed " ++ (decimal routed ++ codes "\n")))))
 
 -- the line of the sketch's numbers
 unfoldable pub sketch_line : Setting → List ℕ
@@ -88,23 +83,54 @@ central_view setting items = record {
   dropped = drops setting items;
 }
 
--- the lines of the one epoch
-abbrev pub epoch_block : Setting → List Item → List ℕ
-epoch_block setting items =
-    block_text setting.seed 0 (length items) (central_view setting items) (level_counts setting items) setting.heavy
+-- the lines of an epoch of these items
+unfoldable pub block_of : Setting → ℕ → List Item → List ℕ
+block_of setting epoch items =
+    block_text setting.seed epoch (length items) (central_view setting items) (level_counts setting items) setting.heavy
 
--- the text of the numbers of packets and of those that have a key, and of the lines of the epoch
-unfoldable pub lines_of : Setting → ℕ → ℕ → List ℕ → List ℕ
-lines_of setting packets keyed block =
-    codes "univmon central 1\n" ++ (counts_line packets keyed ++ (sketch_line setting ++ (block ++ codes "end\n")))
+-- the lines of the change to an epoch with these items from the one before
+unfoldable pub change_of : Setting → ℕ → List Item → List Item → List ℕ
+change_of setting epoch before items =
+    change_lines setting.seed epoch (central_view setting before) (central_view setting items) setting.heavy
 
--- the text of a number of packets and the items of those that have a key
-unfoldable pub central_text : Setting → ℕ → List Item → List ℕ
-central_text setting packets items = lines_of setting packets (length items) (epoch_block setting items)
+-- the lines of an epoch, and behind those of the first the lines of the change to it
+unfoldable pub epoch_lines : Setting → List Routed → ℕ → List ℕ
+epoch_lines setting routed epoch =
+    block_of setting epoch (items_in epoch routed)
+    ++ (if epoch == 0 then [] else change_of setting epoch (items_in (epoch - 1) routed) (items_in epoch routed))
 
--- the text for contents that are a trace of some records
-pub record IsCentral (contents : Option (List ℕ)) (setting : Setting) (text : List ℕ) : Type 0 where
+-- the lines of so many epochs
+abbrev pub epochs_lines : Setting → List Routed → ℕ → List ℕ
+epochs_lines setting routed number = flat_map (epoch_lines setting routed) (range_with_len 0 number)
+
+-- the text of the numbers of packets, of those that have a key and of those that have a path, and of the lines of epochs
+unfoldable pub lines_of : Setting → ℕ → ℕ → ℕ → List ℕ → List ℕ
+lines_of setting packets keyed routed epochs =
+    codes "univmon central 1\n" ++ (counts_line packets keyed routed ++ (sketch_line setting ++ (epochs ++ codes "end\n")))
+
+-- the text of a trace
+unfoldable pub central_text : Setting → Option Topo → Header → List Record → List ℕ
+central_text setting topology header members =
+    let routed = routed_of setting.epoch topology header members in
+    lines_of setting (length members) (keyed_in header members) (length routed)
+    (epochs_lines setting routed (number_of_epochs setting.epoch header members))
+
+-- a topology is read where one is named, from told contents that spell it
+abbrev pub IsTopology : (List ℕ → Option (List ℕ)) → Option (List ℕ) → Option Topo → Type 0
+IsTopology contents None topology = topology ≡ None
+IsTopology contents (Some name) topology =
+    (read : Topo) × (topology ≡ Some read) × IfSome (contents name) (λ bytes. topology_of bytes ≡ Ok read)
+
+-- the text for contents that are a trace of some records in at most eight epochs
+pub record IsReport (contents : Option (List ℕ)) (topology : Option Topo) (setting : Setting) (text : List ℕ) : Type 0 where
   pub header : Header
   pub members : List Record
-  pub trace : IfSome contents (λ bytes. IsTrace bytes header members)
-  pub lines : text ≡ central_text setting (length members) (items_of header members)
+  pub is_trace : IfSome contents (λ bytes. IsTrace bytes header members)
+  pub few : number_of_epochs setting.epoch header members ≤ 8
+  pub lines : text ≡ central_text setting topology header members
+
+-- the text for a topology, where one is named, and a trace
+pub record IsCentral (contents : List ℕ → Option (List ℕ)) (trace : List ℕ) (name : Option (List ℕ)) (setting : Setting) (text : List ℕ) : Type 0 where
+  pub topology : Option Topo
+  pub read : IsTopology contents name topology
+  pub report : IsReport (contents trace) topology setting text

@@ -3,9 +3,10 @@ pub mod Call
 pub mod Central
 pub mod Complete
 pub mod Live
-pub mod Options
+pub mod Report
+pub mod Routed
 pub mod Scan
 pub mod Sketched
 pub mod Status
+pub mod Told
 pub mod Total
-pub mod Words

@@ -5,17 +5,25 @@ use Rattle.pcap_reader.specs.declared.fault.PcapFault.{PcapFault}
 use Rattle.pcap_reader.specs.declared.fault.PcapFault.TheVariants as pcap
 use Rattle.mon_command.specs.declared.status.Input.TheVariants as inputs
 use Rattle.mon_command.specs.declared.status.Status.{Status}
-use Rattle.mon_command.specs.declared.status.Status.TheVariants.{Done, Usage, ReadFault, Trace, SinkFault, Memory}
-use Rattle.mon_command.specs.declared.status.TraceFault.TheVariants.{Pcap}
-use Rattle.mon_command.specs.declared.status.UsageFault.{UsageFault}
-use Rattle.mon_command.specs.declared.status.UsageFault.TheVariants.{NoCommand, UnknownCommand, Refused, Value}
-use Rattle.mon_command.specs.Options.{name_of}
+use Rattle.mon_command.specs.declared.status.Status.TheVariants.{Done, Usage, ReadFault, Topology, Trace, SinkFault, Memory}
+use Rattle.mon_command.specs.declared.status.TraceFault.{TraceFault}
+use Rattle.mon_command.specs.declared.status.TraceFault.TheVariants.{Pcap, Epochs}
+use Rattle.mon_words.specs.Options.{name_of}
+use Rattle.mon_words.specs.declared.usage_fault.UsageFault.{UsageFault}
+use Rattle.mon_words.specs.declared.usage_fault.UsageFault.TheVariants.{NoCommand, UnknownCommand, Refused, Value}
+use Rattle.topology.specs.declared.fault.Entry.{Entry}
+use Rattle.topology.specs.declared.fault.Entry.TheVariants as entry
+use Rattle.topology.specs.declared.fault.TopologyFault.{TopologyFault}
+use Rattle.topology.specs.declared.fault.TopologyFault.TheVariants as fault
+use Rattle.topology.specs.declared.fault.What.{What}
+use Rattle.topology.specs.declared.fault.What.TheVariants as what
 
 -- the number with which the program ends
 abbrev pub number_of : Status → ℕ
 number_of Done = 0
 number_of (Usage fault) = 2
 number_of (ReadFault input) = 3
+number_of (Topology fault) = 4
 number_of (Trace fault) = 5
 number_of SinkFault = 10
 number_of Memory = 13
@@ -45,11 +53,61 @@ pcap_line (pcap.ShortRecord at) = codes "univmon: trace: short record at " ++ de
 pcap_line (pcap.LongRecord at length) = codes "univmon: trace: long record at " ++ (decimal at ++ (codes " length " ++ decimal length))
 pcap_line pcap.TooMany = codes "univmon: trace: too many records"
 
+abbrev pub trace_line : TraceFault → List ℕ
+trace_line (Pcap fault) = pcap_line fault
+trace_line (Epochs number index) = codes "univmon: trace: epoch " ++ (decimal index ++ (codes " at record " ++ decimal number))
+
+abbrev pub entry_word : Entry → List ℕ
+entry_word entry.Switch = codes "switch"
+entry_word entry.Path = codes "path"
+
+abbrev pub what_word : What → List ℕ
+what_word what.List = codes "list"
+what_word what.Name = codes "name"
+what_word what.Capacity = codes "capacity"
+what_word what.Opening = codes "open"
+what_word what.Unit = codes "unit"
+what_word what.From = codes "from"
+what_word what.To = codes "to"
+what_word what.Load = codes "load"
+what_word what.Via = codes "via"
+
+-- what is wrong with a value of an entry
+unfoldable pub value_line : List ℕ → Entry → ℕ → What → List ℕ
+value_line words e index w =
+    codes "univmon: topology: " ++ (words ++ (codes " " ++ (entry_word e ++ (codes " " ++ (decimal index ++ (codes " " ++ what_word w))))))
+
+-- what is wrong with the name of an entry
+unfoldable pub name_line : List ℕ → Entry → ℕ → List ℕ
+name_line words e index =
+    codes "univmon: topology: " ++ (words ++ (codes " " ++ (entry_word e ++ (codes " " ++ decimal index))))
+
+-- what is wrong with a path
+unfoldable pub path_line : List ℕ → ℕ → List ℕ
+path_line words path = codes "univmon: topology: " ++ (words ++ (codes " path " ++ decimal path))
+
+abbrev pub topology_line : TopologyFault → List ℕ
+topology_line fault.NotToml = codes "univmon: topology: not toml"
+topology_line (fault.Missing e index w) = value_line (codes "missing") e index w
+topology_line (fault.WrongKind e index w) = value_line (codes "wrong kind") e index w
+topology_line (fault.Range e index w) = value_line (codes "range") e index w
+topology_line (fault.BadName e index) = name_line (codes "bad name") e index
+topology_line (fault.TwiceNamed e index) = name_line (codes "twice named") e index
+topology_line (fault.UnknownSwitch path) = path_line (codes "unknown switch") path
+topology_line (fault.TwiceVia path) = path_line (codes "twice via") path
+topology_line (fault.BadPrefix path w) = path_line (codes "bad prefix") path ++ (codes " " ++ what_word w)
+topology_line (fault.MixedFamily path) = path_line (codes "mixed family") path
+topology_line (fault.Count e index w found) = value_line (codes "count") e index w ++ (codes " found " ++ decimal found)
+topology_line fault.Memory = codes "univmon: out of memory"
+topology_line fault.TooLong = codes "univmon: topology: too long"
+
 -- the line that is printed on standard error, empty where the work was done
 abbrev pub line_of : Status → List ℕ
 line_of Done = []
 line_of (Usage fault) = usage_line fault
+line_of (ReadFault inputs.Topology) = codes "univmon: cannot read topology"
 line_of (ReadFault inputs.Trace) = codes "univmon: cannot read trace"
-line_of (Trace (Pcap fault)) = pcap_line fault
+line_of (Topology fault) = topology_line fault
+line_of (Trace fault) = trace_line fault
 line_of SinkFault = codes "univmon: cannot write"
 line_of Memory = codes "univmon: out of memory"

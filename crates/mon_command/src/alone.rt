@@ -1,15 +1,19 @@
 //! The commands that start nobody.
 ghost use Rattle.std.specs.Prelude.{◌≡◌, map, string_bytes};
-ghost use Rattle.mon_command.specs.Asked.{Asked, asked_of};
-ghost use Rattle.mon_command.specs.Call.{Outcome, Keeps, call_of};
-ghost use Rattle.mon_command.specs.Complete.{IsSmooth, IsAccepted, HasTold, UnlessMemory};
+ghost use Rattle.mon_words.specs.Values.{IsInRange};
+ghost use Rattle.mon_command.specs.Asked.{Asked, asked_in, asked_of};
+ghost use Rattle.mon_command.specs.Call.{Answers, Outcome, Keeps, call_of};
+ghost use Rattle.mon_command.specs.Complete.{UnlessMemory};
+ghost use Rattle.mon_command.specs.Told.{IsSmooth, IsAccepted, HasTold, HasToldUnfit};
 ghost use Rattle.mon_command.specs.declared.status.TraceFault.{TraceFault};
+ghost use Rattle.topology.specs.declared.fault.TopologyFault.{TopologyFault};
 
 use crate::Status;
-use crate::central::central;
-use crate::command::{Command, read_words};
+use crate::central::{central, central_routed};
+use crate::setting::Setting;
 use crate::total::total;
 use mon_io::{Inputs, Sink};
+use mon_words::{Command, Words, WordsFault, read_words};
 use std::alloc::Global;
 
 /// Does what the words ask for, over any inputs and any sink.
@@ -29,17 +33,23 @@ pub fn run_alone<I: Inputs, K: Sink>(
         IsSmooth (asked_of (map string_bytes words.now)) asked call → IsAccepted asked call →
         UnlessMemory Status.Done result }
 
-    // A fault of the contents is told, unless memory runs out.
+    // A fault of the topology is told, unless memory runs out.
+    ensures unfit { (asked : Asked) (fault : TopologyFault) →
+        let call = call_of (I.state inputs.old) (I.state inputs.new) (K.state sink.old) (K.state sink.new) in
+        IsSmooth (asked_of (map string_bytes words.now)) asked call → HasToldUnfit asked call fault →
+        UnlessMemory (Status.Topology fault) result }
+
+    // A fault of the trace is told, unless memory runs out.
     ensures refused { (asked : Asked) (fault : TraceFault) →
         let call = call_of (I.state inputs.old) (I.state inputs.new) (K.state sink.old) (K.state sink.new) in
         IsSmooth (asked_of (map string_bytes words.now)) asked call → HasTold asked call fault →
         UnlessMemory (Status.Trace fault) result }
 {
-    perform(alloc, words, inputs, sink)
+    answer(alloc, words, inputs, sink)
 }
 
-// Each command by itself.
-fn perform<I: Inputs, K: Sink>(
+// Reads the words, and does what they ask for.
+fn answer<I: Inputs, K: Sink>(
     alloc: Global,
     words: &[String],
     inputs: &mut I,
@@ -49,9 +59,31 @@ fn perform<I: Inputs, K: Sink>(
         Outcome (asked_of (map string_bytes words.now)) call result }
     ensures keeps { Keeps (call_of (I.state inputs.old) (I.state inputs.new) (K.state sink.old) (K.state sink.new)) }
 {
-    match read_words(words) {
-        Ok(Command::Total(trace)) => total(alloc, trace, inputs, sink),
-        Ok(Command::Central(trace, setting)) => central(alloc, trace, &setting, inputs, sink),
-        Err(fault) => Status::Usage(fault),
+    match read_words(alloc, words) {
+        Ok(read) => perform(alloc, &read, inputs, sink),
+        Err(WordsFault::Usage(fault)) => Status::Usage(fault),
+        Err(WordsFault::Memory) => Status::Memory,
+    }
+}
+
+// Each command by itself.
+fn perform<I: Inputs, K: Sink>(alloc: Global, words: &Words, inputs: &mut I, sink: &mut K) -> Status
+    requires { IsInRange words.now }
+    ensures answers { let call = call_of (I.state inputs.old) (I.state inputs.new) (K.state sink.old) (K.state sink.new) in
+        Answers (asked_in words.now) call result }
+    ensures keeps { Keeps (call_of (I.state inputs.old) (I.state inputs.new) (K.state sink.old) (K.state sink.new)) }
+{
+    let trace = words.names[0].as_str();
+    match words.command {
+        Command::Total => total(alloc, trace, inputs, sink),
+        Command::Central => {
+            let setting = Setting::of(words);
+            match &words.topology {
+                Some(name) => {
+                    central_routed(alloc, trace, name.as_str(), &setting, inputs, sink)
+                }
+                None => central(alloc, trace, &setting, inputs, sink),
+            }
+        }
     }
 }

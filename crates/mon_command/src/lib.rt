@@ -1,29 +1,33 @@
 //! The commands of univmon over any inputs and any sink.
 //!
-//! - `status`: `Status` with its number and its line
-//! - `command`: what the words of a call ask for
-//! - `opt`, `options`, `setting`: the options of a sketch, and the numbers that they give
+//! - `status`: `Status` with its number and its line; `topology_line`: the line of a topology's fault
 //! - `total`: the command `total`
-//! - `central`: the command `central`; `sketching`, `live`: a trace as it is sketched; `text`: its text
+//! - `central`: the command `central`; `topology_file`: its topology; `setting`: its numbers
+//! - `epochs`: a trace as it is sketched; `dividing`: how packets are divided into epochs; `sketching`, `live`: the
+//!   packets of an epoch; `blocks`, `text`: the text
+//! - `stop`: why an input gave no value
 //! - `alone`: `run_alone`, the commands that start nobody
 //!
 //! `specs/Call.antt` says each status with its cause.
 #![tactic(auto)]
 
 mod alone;
+mod blocks;
 mod central;
-mod command;
+mod dividing;
+mod epochs;
 mod live;
-mod opt;
-mod options;
 mod setting;
 mod sketching;
 mod status;
+mod stop;
 #[cfg(test)]
 mod tests;
 mod text;
+mod topology_file;
+mod topology_line;
 mod total;
 
 pub use alone::run_alone;
-pub use opt::Opt;
-pub use status::{Input, Status, TraceFault, UsageFault, status_line, status_number};
+pub use mon_words::{Opt, UsageFault};
+pub use status::{Input, Status, TraceFault, status_line, status_number};

@@ -1,18 +1,18 @@
-//! A trace as it is sketched, packet by packet.
-ghost use Rattle.std.specs.Prelude.{◌≡◌, ◌<◌, ◌≤◌, ◌+◌, ◌*◌, ◌++◌, ℕ, List, [], All, IfOk, OnOk, IsTrue, length, map, replicate, string_bytes};
+//! The packets of an epoch as they are sketched.
+ghost use Rattle.std.specs.Prelude.{◌≡◌, ◌<◌, ◌≤◌, ◌+◌, ◌*◌, ◌++◌, [], ◌∷◌, ℕ, List, All, IfOk, OnOk, IsTrue, length, map, replicate, string_bytes};
 ghost use Rattle.std.specs.Cmp.Lexicographic.{slice_cmp};
 ghost use Rattle.std.specs.Ordering.{nat_cmp};
 ghost use Rattle.std.specs.List.Sorted.{IsStrictlySortedBy};
 ghost use Rattle.count_sketch.specs.Counters.{Item, AllUpTo};
 ghost use Rattle.sketch_merge.specs.Merged.{HaveUpTo};
-ghost use Rattle.mon_command.specs.Options.{is_setting};
+ghost use Rattle.mon_command.specs.Asked.{is_setting};
 ghost use Rattle.mon_command.specs.Central.{levels_setting, nonzero};
+ghost use Rattle.mon_command.specs.Routed.{item_of};
 ghost use Rattle.hash_family.specs.Setting.{setting_of};
 
 use crate::live::count_live;
 use crate::setting::Setting;
-use crate::text::text_of;
-use change_report::{LevelCount, epoch_text};
+use change_report::{LevelCount, change_text, epoch_text};
 use flow_keys::FlowKey;
 use hash_family::{Family, Params};
 use mon_io::Memory;
@@ -21,27 +21,26 @@ use sketch_merge::Merged;
 use std::alloc::Global;
 
 /// The levels of a sketch, all live keys where they are kept, how many packets are live at each level,
-/// how many packets there are, and how many have a key.
+/// and how many packets there are.
 #[derive(Drop)]
 pub(crate) struct Sketched {
     family: Family,
     levels: Levels,
     all: Option<AllKeys>,
     live: Vec<u32>,
-    packets: u32,
-    keyed: u32,
+    number: u32,
 }
 
 impl Sketched {
-    ghost use Rattle.mon_command.specs.Sketched.{Sketches, IsSketch, HasRoom, IsTopOf, any_mark, items_of_key, counters_up_to, keys_up_to};
-    ghost use Rattle.mon_command.specs.Central.{central_text, central_view, epoch_block, kept_keys, level_count, level_counts};
+    ghost use Rattle.mon_command.specs.Sketched.{Sketches, IsMerged, IsSketch, HasRoom, any_mark, counters_up_to, keys_up_to};
+    ghost use Rattle.mon_command.specs.Central.{block_of, central_view, change_of, kept_keys, level_count, level_counts};
     ghost use Rattle.sketch_levels.specs.Items.{live_items};
     ghost use Rattle.sketch_levels.specs.Levels.{Holds};
 
     /// Nothing yet.
     pub(crate) fn new(alloc: Global, setting: &Setting) -> Result<Sketched, Memory>
         requires { IsTrue (is_setting setting.now) }
-        ensures { IfOk result (λ sketched. Sketches setting.now sketched 0 []) }
+        ensures { IfOk result (λ sketched. Sketches setting.now sketched []) }
     {
         let family = Family::new(alloc, setting.seed)?;
         let levels = Levels::new(alloc, params_of(setting))?;
@@ -56,68 +55,78 @@ impl Sketched {
             levels,
             all,
             live,
-            packets: 0,
-            keyed: 0,
+            number: 0,
         })
     }
 
-    /// Counts a packet, with its key where it has one.
-    pub(crate) fn add(&mut self, key: Option<FlowKey>) -> Result<(), Memory>
+    /// Counts a packet with this key.
+    pub(crate) fn add(&mut self, key: &FlowKey) -> Result<(), Memory>
         requires { HasRoom self.old }
-        ensures { OnOk result ((setting : Setting) (packets : ℕ) (items : List Item) →
-            Sketches setting self.old packets items → Sketches setting self.new (packets + 1) (items ++ items_of_key key)) }
+        ensures { OnOk result ((setting : Setting) (items : List Item) →
+            Sketches setting self.old items → Sketches setting self.new (items ++ item_of key.now ∷ [])) }
     {
-        self.packets += 1;
-        let Some(key) = key else {
-            return Ok(());
-        };
-        self.keyed += 1;
-        self.levels.feed(&key, 1);
-        count_live(&self.family, &key, &mut self.live);
+        self.number += 1;
+        self.levels.feed(key, 1);
+        count_live(&self.family, key, &mut self.live);
         match &mut self.all {
-            Some(all) => all.note(&self.family, &key),
+            Some(all) => all.note(&self.family, key),
             None => Ok(()),
         }
     }
 
-    /// The text of what was sketched.
-    pub(crate) fn text(&self, alloc: Global, setting: &Setting) -> Result<String, Memory>
+    /// The lines of the epoch, of which this is the merged sketch.
+    pub(crate) fn block(
+        &self,
+        alloc: Global,
+        setting: &Setting,
+        epoch: u8,
+        merged: &Merged,
+    ) -> Result<String, Memory>
         requires sketch { IsSketch setting.now self.now }
-        ensures text { IfOk result (λ text. (packets : ℕ) (items : List Item) →
-            Sketches setting.now self.now packets items → string_bytes text ≡ central_text setting.now packets items) }
+        requires merged { IsMerged setting.now merged.now }
+        ensures text { IfOk result (λ text. (items : List Item) →
+            Sketches setting.now self.now items → merged.now ≡ central_view setting.now items →
+            string_bytes text ≡ block_of setting.now epoch items) }
     {
-        let block = self.block(alloc, setting)?;
-        match text_of(alloc, setting, self.packets, self.keyed, &block) {
-            Ok(text) => Ok(text),
-            Err(_) => Err(Memory),
-        }
-    }
-
-    // The lines of the epoch.
-    fn block(&self, alloc: Global, setting: &Setting) -> Result<String, Memory>
-        requires sketch { IsSketch setting.now self.now }
-        ensures text { IfOk result (λ text. (packets : ℕ) (items : List Item) →
-            Sketches setting.now self.now packets items → string_bytes text ≡ epoch_block setting.now items) }
-    {
-        let merged = self.merged(alloc, setting)?;
-        let counts = self.level_counts(alloc, setting, &merged)?;
+        let counts = self.level_counts(alloc, setting, merged)?;
         epoch_text(
             alloc,
             &self.family,
-            0,
-            self.keyed,
-            &merged,
+            epoch,
+            self.number,
+            merged,
             &counts,
             setting.heavy,
         )
     }
 
-    // What was sketched, as a merged sketch.
-    fn merged(&self, alloc: Global, setting: &Setting) -> Result<Merged, Memory>
+    /// The lines of the change to the epoch, of which this is the merged sketch, from the one before.
+    pub(crate) fn change(
+        &self,
+        alloc: Global,
+        setting: &Setting,
+        epoch: u8,
+        before: &Merged,
+        merged: &Merged,
+    ) -> Result<String, Memory>
         requires sketch { IsSketch setting.now self.now }
-        ensures value { IfOk result (λ merged. (packets : ℕ) (items : List Item) →
-            Sketches setting.now self.now packets items → merged ≡ central_view setting.now items) }
-        ensures few { IfOk result (λ merged. HaveUpTo 1048576 merged.keys) }
+        requires later { 0 < epoch }
+        requires merged { IsMerged setting.now merged.now }
+        requires before { IsMerged setting.now before.now }
+        ensures text { IfOk result (λ text. (earlier items : List Item) →
+            Sketches setting.now self.now items → before.now ≡ central_view setting.now earlier →
+            merged.now ≡ central_view setting.now items →
+            string_bytes text ≡ change_of setting.now epoch earlier items) }
+    {
+        change_text(alloc, &self.family, epoch, before, merged, setting.heavy)
+    }
+
+    /// What was sketched, as a merged sketch.
+    pub(crate) fn merged(&self, alloc: Global, setting: &Setting) -> Result<Merged, Memory>
+        requires sketch { IsSketch setting.now self.now }
+        ensures value { IfOk result (λ merged. (items : List Item) →
+            Sketches setting.now self.now items → merged ≡ central_view setting.now items) }
+        ensures merged { IfOk result (IsMerged setting.now) }
     {
         let counters = self.counters(alloc, setting.levels)?;
         let keys = self.keys(alloc, setting)?;
@@ -147,8 +156,8 @@ impl Sketched {
     // The keys that each level keeps.
     fn keys(&self, alloc: Global, setting: &Setting) -> Result<Vec<Vec<FlowKey>>, Memory>
         requires sketch { IsSketch setting.now self.now }
-        ensures value { IfOk result (λ keys. (packets : ℕ) (items : List Item) →
-            Sketches setting.now self.now packets items →
+        ensures value { IfOk result (λ keys. (items : List Item) →
+            Sketches setting.now self.now items →
             map (λ level. level.items) keys.items ≡ keys_up_to setting.now items (setting.now.levels + 1)) }
         ensures number { IfOk result (λ keys. length keys.items ≡ setting.now.levels + 1) }
         ensures ascending { IfOk result (λ keys. All (λ level. IsStrictlySortedBy (slice_cmp nat_cmp) level.items) keys.items) }
@@ -168,8 +177,8 @@ impl Sketched {
     fn kept(&self, alloc: Global, setting: &Setting, level: u8) -> Result<Vec<FlowKey>, Memory>
         requires sketch { IsSketch setting.now self.now }
         requires high { level ≤ setting.now.levels }
-        ensures value { IfOk result (λ keys. (packets : ℕ) (items : List Item) →
-            Sketches setting.now self.now packets items →
+        ensures value { IfOk result (λ keys. (items : List Item) →
+            Sketches setting.now self.now items →
             keys.items ≡ kept_keys setting.now level (live_items setting.now.seed level items)) }
         ensures ascending { IfOk result (λ keys. IsStrictlySortedBy (slice_cmp nat_cmp) keys.items) }
         ensures few { IfOk result (λ keys. length keys.items ≤ 1048576) }
@@ -190,8 +199,8 @@ impl Sketched {
         requires sketch { IsSketch setting.now self.now }
         requires levels { merged.now.setting.levels ≡ setting.now.levels }
         requires few { HaveUpTo 1048576 merged.now.keys }
-        ensures value { IfOk result (λ counts. (packets : ℕ) (items : List Item) →
-            Sketches setting.now self.now packets items → merged.now ≡ central_view setting.now items →
+        ensures value { IfOk result (λ counts. (items : List Item) →
+            Sketches setting.now self.now items → merged.now ≡ central_view setting.now items →
             counts.items ≡ level_counts setting.now items) }
     {
         let mut counts = Vec::new(alloc);
@@ -209,8 +218,8 @@ impl Sketched {
         requires number { level < length self.now.live.items }
         requires high { level ≤ merged.now.setting.levels }
         requires few { HaveUpTo 1048576 merged.now.keys }
-        ensures value { (setting : Setting) (packets : ℕ) (items : List Item) →
-            Sketches setting self.now packets items → merged.now ≡ central_view setting items →
+        ensures value { (setting : Setting) (items : List Item) →
+            Sketches setting self.now items → merged.now ≡ central_view setting items →
             level ≤ setting.levels → result ≡ level_count setting items level }
     {
         let packets = self.live[usize::from(level)];

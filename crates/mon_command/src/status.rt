@@ -1,11 +1,13 @@
 //! How a call ended.
 ghost use Rattle.std.specs.Prelude.{◌≡◌, IfOk, string_bytes};
-ghost use Rattle.mon_command.specs.Status.{number_of, line_of, pcap_line, usage_line};
+ghost use Rattle.mon_command.specs.Status.{number_of, line_of, pcap_line, trace_line, usage_line};
 
-use crate::Opt;
+use crate::topology_line::topology_text;
 use mon_io::Memory;
+use mon_words::UsageFault;
 use pcap_reader::PcapFault;
 use std::alloc::{AllocError, Global};
+use topology::TopologyFault;
 
 /// How a call ended.
 #[derive(Clone, Copy, Debug, PartialEq, Eq)]
@@ -16,6 +18,8 @@ pub enum Status {
     Usage(UsageFault),
     /// An input could not be picked or read.
     ReadFault(Input),
+    /// The topology is refused, by its first fault.
+    Topology(TopologyFault),
     /// The trace is refused, by its first fault in the order of the file.
     Trace(TraceFault),
     /// The text could not be written to its end.
@@ -24,22 +28,11 @@ pub enum Status {
     Memory,
 }
 
-/// Why the words of a call are refused.
-#[derive(Clone, Copy, Debug, PartialEq, Eq)]
-pub enum UsageFault {
-    /// There is no word.
-    NoCommand,
-    /// The first word is no command.
-    UnknownCommand,
-    /// The command does not take the other words.
-    Refused,
-    /// The value of this option is no number that it takes.
-    Value(Opt),
-}
-
 /// What is read.
 #[derive(Clone, Copy, Debug, PartialEq, Eq)]
 pub enum Input {
+    /// The topology.
+    Topology,
     /// The trace.
     Trace,
 }
@@ -49,6 +42,8 @@ pub enum Input {
 pub enum TraceFault {
     /// It is no classic pcap trace.
     Pcap(PcapFault),
+    /// The record of this number, from 0, is the first in an epoch above the eighth, which has the index 7.
+    Epochs { number: u32, index: u32 },
 }
 
 /// The number with which the program ends: 0 where the work was done.
@@ -59,6 +54,7 @@ pub fn status_number(status: &Status) -> u8
         Status::Done => 0,
         Status::Usage(_) => 2,
         Status::ReadFault(_) => 3,
+        Status::Topology(_) => 4,
         Status::Trace(_) => 5,
         Status::SinkFault => 10,
         Status::Memory => 13,
@@ -72,8 +68,12 @@ pub fn status_line(alloc: Global, status: &Status) -> Result<String, Memory>
     let line = match status {
         Status::Done => String::from_str(alloc, ""),
         Status::Usage(fault) => usage_text(alloc, *fault),
+        Status::ReadFault(Input::Topology) => {
+            String::from_str(alloc, "univmon: cannot read topology")
+        }
         Status::ReadFault(Input::Trace) => String::from_str(alloc, "univmon: cannot read trace"),
-        Status::Trace(TraceFault::Pcap(fault)) => pcap_text(alloc, *fault),
+        Status::Topology(fault) => topology_text(alloc, *fault),
+        Status::Trace(fault) => trace_text(alloc, *fault),
         Status::SinkFault => String::from_str(alloc, "univmon: cannot write"),
         Status::Memory => String::from_str(alloc, "univmon: out of memory"),
     };
@@ -93,6 +93,17 @@ fn usage_text(alloc: Global, fault: UsageFault) -> Result<String, AllocError>
         UsageFault::Value(option) => {
             let name = option.name();
             format!(in alloc; "univmon: usage: value of {name}")
+        }
+    }
+}
+
+fn trace_text(alloc: Global, fault: TraceFault) -> Result<String, AllocError>
+    ensures { IfOk result (λ line. string_bytes line ≡ trace_line fault) }
+{
+    match fault {
+        TraceFault::Pcap(fault) => pcap_text(alloc, fault),
+        TraceFault::Epochs { number, index } => {
+            format!(in alloc; "univmon: trace: epoch {index} at record {number}")
         }
     }
 }

@@ -67,3 +67,26 @@ same_reading order count (x ∷ xs) (y ∷ ys) r s each_x each_y few_x few_y end
     let ends_s : Ends order (count + 1 + length ys) s = subst (λ (n : ℕ). Ends order n s) (omega arith) ends_y in
     let later = same_reading order (count + 1) xs ys r s each_x.1 each_y.1 (omega (arith, few_x)) (omega (arith, few_y)) ends_r ends_s first.1 in
     (λ i. first.0 i ∷ later.0 i, later.1)
+
+-- of two readings the lesser one is the front of the other
+pub same_front : (order : Order) (xs ys : List Record) (r s : List ℕ) → AllByRecursion (IsRecord order) xs → AllByRecursion (IsRecord order) ys
+    → length xs ≤ length ys → flat_map spelling xs ++ r ≡ flat_map spelling ys ++ s → xs ≡ take (length xs) ys
+same_front order [] ys r s each_x each_y few same = refl
+same_front order (x ∷ xs) [] r s each_x each_y few same = absurd (omega (arith, few))
+same_front order (x ∷ xs) (y ∷ ys) r s each_x each_y few same =
+    let first = same_record order x y (flat_map spelling xs ++ r) (flat_map spelling ys ++ s) each_x.0 each_y.0
+    (sym (append_assoc (spelling x) (flat_map spelling xs) r) ∙ same ∙ append_assoc (spelling y) (flat_map spelling ys) s) in
+    let later = same_front order xs ys r s each_x.1 each_y.1 (omega (arith, few)) first.1 in
+    λ i. first.0 i ∷ later i
+
+-- no reading is longer than one up to a place where no further record begins
+pub longest : (order : Order) (count : ℕ) (xs ys : List Record) (r s : List ℕ) → AllByRecursion (IsRecord order) xs → AllByRecursion (IsRecord order) ys
+    → count + length xs ≤ 1048576 → Ends order (count + length ys) s → flat_map spelling xs ++ r ≡ flat_map spelling ys ++ s → length xs ≤ length ys
+longest order count [] ys r s each_x each_y few ends same = omega arith
+longest order count (x ∷ xs) [] r s each_x each_y few ends same =
+    absurd (ends.none (omega (arith, few)) (starts_here order x xs r s each_x.0 (sym same)))
+longest order count (x ∷ xs) (y ∷ ys) r s each_x each_y few ends same =
+    let first = same_record order x y (flat_map spelling xs ++ r) (flat_map spelling ys ++ s) each_x.0 each_y.0
+    (sym (append_assoc (spelling x) (flat_map spelling xs) r) ∙ same ∙ append_assoc (spelling y) (flat_map spelling ys) s) in
+    let behind : Ends order (count + 1 + length ys) s = subst (λ (n : ℕ). Ends order n s) (omega arith) ends in
+    omega (arith, longest order (count + 1) xs ys r s each_x.1 each_y.1 (omega (arith, few)) behind first.1)

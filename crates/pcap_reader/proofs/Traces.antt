@@ -11,7 +11,7 @@ use Rattle.pcap_reader.specs.Trace.{Record, IsRecord, Begins, BreaksOff, IsTrace
 use Rattle.pcap_reader.specs.declared.fault.PcapFault.{PcapFault}
 use Rattle.pcap_reader.specs.declared.header.Header.{Header}
 use Rattle.pcap_reader.specs.declared.order.Order.{Order}
-use Rattle.pcap_reader.proofs.Readings.{Ends, ends_nil, ends_fault, same_reading}
+use Rattle.pcap_reader.proofs.Readings.{Ends, ends_nil, ends_fault, longest, same_front, same_reading}
 use Rattle.pcap_reader.proofs.Records.{All-push}
 
 -- two readings, each up to a place where no further record begins
@@ -126,3 +126,24 @@ always_one bytes =
       | Err fault ↦ λ is. inr ([], fault, inl (refl, is))
       | Ok header ↦ λ is. read_on (length bytes) bytes header [] (drop 24 bytes) (omega (arith, length-drop 24 bytes)) (record { accepted = is; each = tt; parts = refl; few = omega arith })
     ]) refl
+
+-- of two readings of the same bytes the lesser one is the front of the other
+pub one_front : {bytes : List ℕ} {h k : Header} {xs ys : List Record} {r s : List ℕ} → Begins bytes h xs r → Begins bytes k ys s → length xs ≤ length ys → (h ≡ k) × (xs ≡ take (length xs) ys)
+one_front {bytes} {h} {k} {xs} {ys} {r} {s} first second few =
+    let header : h ≡ k = cc (first.accepted, second.accepted) in
+    let each : AllByRecursion (IsRecord h.order) ys = subst (λ (o : Header). AllByRecursion (IsRecord o.order) ys) (sym header) second.each in
+    (header, same_front h.order xs ys r s first.each each few (sym first.parts ∙ second.parts))
+
+-- no reading is longer than one up to a place where no further record begins
+longest_begins : {bytes : List ℕ} {h k : Header} {xs ys : List Record} {r s : List ℕ} → Begins bytes h xs r → Begins bytes k ys s → Ends k.order (length ys) s → length xs ≤ length ys
+longest_begins {bytes} {h} {k} {xs} {ys} {r} {s} first second ends =
+    let header : k ≡ h = cc (first.accepted, second.accepted) in
+    let each : AllByRecursion (IsRecord h.order) ys = subst (λ (o : Header). AllByRecursion (IsRecord o.order) ys) header second.each in
+    let ends_0 : Ends h.order (0 + length ys) s = subst (λ (n : ℕ). Ends h.order n s) (omega arith) (subst (λ (o : Header). Ends o.order (length ys) s) header ends) in
+    longest h.order 0 xs ys r s first.each each (omega (arith, first.few)) ends_0 (sym first.parts ∙ second.parts)
+
+pub longest_trace : {bytes : List ℕ} {h k : Header} {xs ys : List Record} {r : List ℕ} → Begins bytes h xs r → IsTrace bytes k ys → length xs ≤ length ys
+longest_trace {k = k} {ys = ys} first trace = longest_begins first trace (ends_nil k.order (length ys))
+
+pub longest_broken : {bytes : List ℕ} {h k : Header} {xs ys : List Record} {r : List ℕ} {fault : PcapFault} → Begins bytes h xs r → BreaksOff bytes k ys fault → length xs ≤ length ys
+longest_broken first off = longest_begins first off.begins (ends_off off)

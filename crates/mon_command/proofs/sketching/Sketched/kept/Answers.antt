@@ -9,7 +9,7 @@ use Rattle.mon_command.proofs.Ranges.{if_ok_weaker}
 use Rattle.mon_command.proofs.sketching.Sketched.kept.Goals as goal
 
 pub returns-in-Some-clause-value : goal.returns-in-Some-clause-value
-returns-in-Some-clause-value c = if_ok_weaker c.keys.result (λ keys all packets items sketches.
+returns-in-Some-clause-value c = if_ok_weaker c.keys.result (λ keys all items sketches.
     let setting = c.args.setting.now in
     let noted = noted_some setting items c.in-Some.is sketches.noted in
     all setting.seed items noted.2 ∙ kept_all setting c.args.level (live_items setting.seed c.args.level items) noted.0) c.keys.ensures.items
@@ -24,7 +24,7 @@ returns-in-Some-clause-few c =
     (omega (arith, few_live setting.seed c.args.level sketch.items, sketch.few))) c.keys.ensures.items
 
 pub returns-in-None-clause-value : goal.returns-in-None-clause-value
-returns-in-None-clause-value c = if_ok_weaker c.keys-in-None.result (λ keys all packets items sketches.
+returns-in-None-clause-value c = if_ok_weaker c.keys-in-None.result (λ keys all items sketches.
     let setting = c.args.setting.now in
     let none = noted_nothing setting items c.in-None.is sketches.noted in
     all items sketches.holds

@@ -20,11 +20,11 @@ loop-level-preserved c =
     let kept = c.in_ok-kept.kept in
     let items_of : Vec FlowKey Global → List (List ℕ) = λ l. l.items in
     let grown : c.push.new.self.items ≡ before ++ kept ∷ [] = c.in-Ok.ensures.items in (
-      (λ packets items sketches.
+      (λ items sketches.
           ap (λ (l : List (Vec FlowKey Global)). map items_of l) grown
           ∙ map-append items_of before (kept ∷ [])
-          ∙ ap (λ (l : List (List (List ℕ))). l ++ kept.items ∷ []) (c.loop-level.invariant.0 packets items sketches)
-          ∙ ap (λ (l : List (List ℕ)). keys_up_to setting items level ++ l ∷ []) (c.in_ok-kept.ensures.value packets items sketches)
+          ∙ ap (λ (l : List (List (List ℕ))). l ++ kept.items ∷ []) (c.loop-level.invariant.0 items sketches)
+          ∙ ap (λ (l : List (List ℕ)). keys_up_to setting items level ++ l ∷ []) (c.in_ok-kept.ensures.value items sketches)
           ∙ sym (map-range_with_len_more (λ l. kept_keys setting l (live_items setting.seed l items)) 0 level level (omega arith))),
       ap (λ (l : List (Vec FlowKey Global)). length l) grown ∙ length-append before (kept ∷ []) ∙ omega (arith, c.loop-level.invariant.1),
       subst (All (λ (l : Vec FlowKey Global). IsStrictlySortedBy (slice_cmp nat_cmp) l.items)) (sym grown) (All-push (λ (l : Vec FlowKey Global). IsStrictlySortedBy (slice_cmp nat_cmp) l.items) before kept c.loop-level.invariant.2 c.in_ok-kept.ensures.ascending),
@@ -32,6 +32,6 @@ loop-level-preserved c =
     )
 
 pub returns-clause-value : goal.returns-clause-value
-returns-clause-value c = λ packets items sketches.
+returns-clause-value c = λ items sketches.
     let all : c.loop-level.level ≡ c.args.setting.now.levels + 1 = omega arith in
-    c.loop-level.invariant.0 packets items sketches ∙ ap (λ (n : ℕ). keys_up_to c.args.setting.now items n) all
+    c.loop-level.invariant.0 items sketches ∙ ap (λ (n : ℕ). keys_up_to c.args.setting.now items n) all

@@ -12,7 +12,7 @@ overflow_cast-result c =
 
 pub returns : goal.returns
 returns c = record {
-  value = λ setting packets items sketches view within.
+  value = λ setting items sketches view within.
       let level = c.args.level in
       let live = read_at c.args.self.now.live.items c.from.result level c.index-packets.result.now c.index-packets.ensures c.from.ensures c.requires.number ∙ sketches.live.each level c.requires.number in
       level_count_is setting items level _ _ _ _ live

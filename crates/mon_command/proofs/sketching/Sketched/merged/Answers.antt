@@ -6,7 +6,7 @@ use Rattle.sketch_merge.specs.Merged.{HaveUpTo}
 use Rattle.mon_command.specs.Central.{levels_setting, drops}
 use Rattle.mon_command.specs.Sketched.{any_mark}
 use Rattle.mon_command.proofs.Packets.{drops_is, not_some}
-use Rattle.mon_command.proofs.Ranges.{if_ok_weaker, if_ok_by_five}
+use Rattle.mon_command.proofs.Ranges.{if_ok_by_three, if_ok_by_five}
 use Rattle.mon_command.proofs.Views.{counters_joined, counters_shaped, level_counters, view_is}
 use Rattle.mon_command.proofs.sketching.Sketched.merged.Goals as goal
 use Rattle.mon_command.proofs.sketching.Sketched.merged.Goals.{then-is_none, else-is_none}
@@ -16,7 +16,7 @@ returns-clause-value c =
     let r = c.from_levels.result in
     let from = c.from_levels.ensures in
     let setting = c.args.setting.now in
-    if_ok_by_five r (λ merged of_setting of_weight of_counters of_keys of_dropped packets items sketches.
+    if_ok_by_five r (λ merged of_setting of_weight of_counters of_keys of_dropped items sketches.
     let mark = any_mark (levels_setting setting) items (setting.levels + 1) in
     let all = drops_is setting items c.args.self.now.all sketches.noted in
     let number : c.params_of.result.levels ≡ setting.levels = ap (λ (s : sketch.Setting). s.levels) c.params_of.ensures in
@@ -37,11 +37,16 @@ returns-clause-value c =
     view_is setting items merged
     (of_setting ∙ c.params_of.ensures)
     (of_weight ∙ c.weight-weight.ensures.value ∙ sketches.holds.weight)
-    (of_counters parts shaped (counters_joined setting c.args.self.now packets items _ sketches c.in_ok-counters.ensures.value))
-    (of_keys ∙ c.in_ok-keys.ensures.value packets items sketches)
+    (of_counters parts shaped (counters_joined setting c.args.self.now items _ sketches c.in_ok-counters.ensures.value))
+    (of_keys ∙ c.in_ok-keys.ensures.value items sketches)
     (of_dropped ∙ dropped))
     from.setting from.weight from.counters from.keys from.dropped
 
-pub returns-clause-few : goal.returns-clause-few
-returns-clause-few c = if_ok_weaker c.from_levels.result (λ merged keys.
-    subst (HaveUpTo 1048576) (sym keys) (record { each = All-map (λ (l : List (List ℕ)). length l ≤ 1048576) (λ l. l.items) c.in_ok-keys.keys.items c.in_ok-keys.ensures.few })) c.from_levels.ensures.keys
+pub returns-clause-merged : goal.returns-clause-merged
+returns-clause-merged c =
+    let from = c.from_levels.ensures in
+    if_ok_by_three c.from_levels.result (λ merged of_setting small of_keys. record {
+      shape = of_setting ∙ c.params_of.ensures;
+      light = small;
+      few = subst (HaveUpTo 1048576) (sym of_keys) (record { each = All-map (λ (l : List (List ℕ)). length l ≤ 1048576) (λ l. l.items) c.in_ok-keys.keys.items c.in_ok-keys.ensures.few });
+    }) from.setting from.small from.keys

@@ -15,8 +15,7 @@ returns c = record {
   ];
   number = ap (λ (l : List ℕ). length l) c.in_ok-live.ensures ∙ length-replicate {A = ℕ} (c.from.result + 1) 0 ∙ ap (λ (n : ℕ). n + 1) c.from.ensures;
   live = live_first c.args.setting.now.seed _ _ c.in_ok-live.ensures;
-  packets_is = refl;
-  keyed_is = refl;
+  number_is = refl;
   weight_is = refl;
   ones = weight_of_none c.args.setting.now.seed;
 }

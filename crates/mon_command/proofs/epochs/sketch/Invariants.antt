@@ -1,12 +1,12 @@
 use Rattle.std.proofs.Common.{◌≡◌, ◌≤◌, ◌-◌}
-use Rattle.mon_command.proofs.Readings.{Sketching}
-use Rattle.mon_command.proofs.central.sketch.Given as goal
+use Rattle.mon_command.proofs.Readings.{Dividing}
+use Rattle.mon_command.proofs.epochs.sketch.Given as goal
 
 abbrev pub invariant-loop-packet : goal.invariant-loop-packet
 invariant-loop-packet g l =
-    Sketching ((g.I.Inputs.state l.fn.inputs).contents l.trace) (g.I.Inputs.state l.inputs).rest l.reader l.setting l.sketched
+    Dividing ((g.I.Inputs.state l.fn.inputs).contents l.trace) (g.I.Inputs.state l.inputs).rest l.reader l.setting l.topology l.epochs
     × ((g.I.Inputs.state l.fn.inputs).faults ≤ (g.I.Inputs.state l.inputs).faults)
     × ((g.I.Inputs.state l.inputs).contents ≡ (g.I.Inputs.state l.fn.inputs).contents)
 
 abbrev pub decreases-loop-packet : goal.decreases-loop-packet
-decreases-loop-packet g l = 1048576 - l.sketched.packets
+decreases-loop-packet g l = 1048576 - l.epochs.packets
