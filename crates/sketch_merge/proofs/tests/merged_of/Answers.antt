@@ -1,4 +1,4 @@
-use Rattle.std.proofs.Common.{◌≡◌, ℕ, ℤ, ◌+◌, List, sym, ◌∙◌, subst, arith, rules}
+use Rattle.std.proofs.Common.{◌≡◌, ℕ, ◌+◌, sym, ◌∙◌, subst, arith, rules}
 use Rattle.count_sketch.specs.Counters.{AllUpTo}
 use Rattle.sketch_merge.proofs.tests.merged_of.Goals as goal
 
