@@ -1,5 +1,5 @@
 -- The text of what was sketched.
-use Rattle.std.proofs.Common.{◌≡◌, ◌≤◌, ℕ, List, Option, IsTrue, length, ◌∙◌, arith}
+use Rattle.std.proofs.Common.{◌≡◌, ℕ, List, Option, IsTrue, length, arith}
 use Rattle.count_sketch.specs.Counters.{Item}
 use Rattle.mon_command.specs.Central.{items_of, central_text, IsCentral}
 use Rattle.mon_command.specs.Options.{is_setting}

@@ -1,5 +1,5 @@
 -- The text of `central`.
-use Rattle.std.specs.Prelude.{◌≡◌, ℤ, pos, ℕ, ◌+◌, ◌==◌, ◌&&◌, not, max, Bool, List, [], ◌∷◌, ◌++◌, length, filter_map, map, count_by, Option, IfSome, option_map, codes, decimal, if◌then◌else◌}
+use Rattle.std.specs.Prelude.{◌≡◌, ℤ, pos, ℕ, ◌+◌, ◌==◌, ◌&&◌, not, max, Bool, List, ◌++◌, length, filter_map, map, count_by, Option, IfSome, option_map, codes, decimal, if◌then◌else◌}
 use Rattle.std.specs.List.{list_any, range_with_len}
 use Rattle.std.specs.Ordering.{int_eq}
 use Rattle.flow_keys.specs.Frame.{frame_key}

@@ -1,4 +1,4 @@
-use Rattle.std.proofs.Common.{◌≡◌, ◌∙◌, ap}
+use Rattle.std.proofs.Common.{◌∙◌, ap}
 use Rattle.sketch_merge.specs.Merged.{View}
 use Rattle.mon_command.proofs.Ranges.{if_ok_weaker}
 use Rattle.mon_command.proofs.Views.{block_is, view_levels}

@@ -1,5 +1,4 @@
-use Rattle.std.proofs.Common.{◌∙◌, ◌≡◌, ℕ, List, length, ap}
-use Rattle.mon_command.specs.Central.{central_text, lines_of, epoch_block}
+use Rattle.std.proofs.Common.{◌∙◌}
 use Rattle.mon_command.proofs.Views.{central_text_is}
 use Rattle.mon_command.proofs.sketching.Sketched.text.Goals as goal
 
