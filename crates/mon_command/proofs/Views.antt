@@ -1,19 +1,19 @@
 -- The merged sketch of what was sketched.
-use Rattle.std.proofs.Common.{◌≡◌, ℕ, ℤ, ◌+◌, ◌*◌, ◌<◌, ◌≤◌, Bool, List, [], length, map, All, IsTrue, refl, sym, ◌∙◌, ap, subst, arith, rules, inl, inr}
-use Rattle.std.specs.List.{flat_map, range_with_len, slice_index_or}
+use Rattle.std.proofs.Common.{◌≡◌, ℕ, ℤ, ◌+◌, ◌*◌, ◌≤◌, List, [], length, map, All, IsTrue, refl, sym, ◌∙◌, ap, subst, arith, inl, inr}
+use Rattle.std.specs.List.{flat_map, range_with_len}
 use Rattle.std.proofs.lemmas.Bool.{cases_lt}
 use Rattle.std.proofs.lemmas.Bool.Decides.{nat_tests}
 use Rattle.std.proofs.lemmas.List.{get_or_past}
 use Rattle.std.proofs.lemmas.List.Elements.{All-get_or, All-map, All-from_get_or}
 use Rattle.std.proofs.lemmas.List.Folds.{flat_map-map}
-use Rattle.std.proofs.lemmas.List.FromFn.{length-map-range_with_len, get_or-map-range_with_len}
-use Rattle.hash_family.specs.Limits.{are_within, is_rows, is_width}
+use Rattle.std.proofs.lemmas.List.FromFn.{get_or-map-range_with_len}
+use Rattle.hash_family.specs.Limits.{are_within}
 use Rattle.hash_family.specs.Setting as sketch
 use Rattle.count_sketch.specs.Counters.{Item, counters_of}
 use Rattle.count_sketch.proofs.Shares.{length-counters_of}
 use Rattle.sketch_levels.specs.Items.{live_items, weight_of}
 use Rattle.sketch_levels.specs.Levels as levels
-use Rattle.sketch_merge.specs.Merged.{View, HaveUpTo, IsView, counters_at, keys_at}
+use Rattle.sketch_merge.specs.Merged.{View, HaveUpTo, counters_at, keys_at}
 use Rattle.change_report.specs.Block.{block_text}
 use Rattle.change_report.specs.Change.{change_lines}
 use Rattle.change_report.specs.declared.level_count.LevelCount.{LevelCount}

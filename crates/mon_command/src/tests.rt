@@ -9,6 +9,9 @@ use std::alloc::{AllocError, Global};
 use std::process::Abort;
 use std::test::Fail;
 
+mod epochs;
+mod lines;
+
 const LITTLE: [u8; 24] = [
     0xd4, 0xc3, 0xb2, 0xa1, 2, 0, 4, 0, 0, 0, 0, 0, 0, 0, 0, 0, 0xff, 0xff, 0, 0, 1, 0, 0, 0,
 ];
@@ -39,6 +42,20 @@ packets 3 keyed 3 routed 3
 sketch seed 1 levels 0 rows 1 width 16 heap all weight packets
 epoch 0 packets 3 weight 3 heaps kept
 level 0 packets 3 weight 3 keys 1 nonzero 1
+cardinality 1
+total 3
+heavy 10.0.0.1 1000 10.1.0.2 53 17 weight 3
+end
+";
+
+// The same of no packet.
+const CENTRAL_OF_NONE: &str = "univmon central 1
+packets 0 keyed 0 routed 0
+sketch seed 1 levels 0 rows 1 width 16 heap all weight packets
+epoch 0 packets 0 weight 0 heaps kept
+level 0 packets 0 weight 0 keys 0 nonzero 0
+cardinality 0
+total 0
 end
 ";
 
@@ -292,15 +309,34 @@ fn two_flows(alloc: Global) -> Result<Vec<u8>, AllocError> {
     )
 }
 
+// How many bytes of the trace there are, the words, and the text.
 #[test]
 fn sketches_one_flow(rt: HostRuntime) -> Result<(), Fail> {
     let alloc = rt.alloc();
-    let bytes = three_frames(alloc, &LITTLE, &HEAD)?;
-    let mut inputs = inputs(alloc, bytes, None)?;
-    let mut sink = MemSink::new(alloc, 4096, Vec::new(alloc))?;
-    let line = "central A --width 16 --rows 1 --levels 0";
-    assert_eq!(rt; run(alloc, line, &mut inputs, &mut sink)?, Status::Done);
-    assert_eq!(rt; sink.bytes(), CENTRAL.as_bytes());
+    for (length, line, text) in [
+        (198, "central A --width 16 --rows 1 --levels 0", CENTRAL),
+        (
+            198,
+            "central A --heavy 1000 --width 16 --rows 1 --levels 0",
+            CENTRAL,
+        ),
+        (
+            24,
+            "central A --levels 0 --rows 1 --width 16",
+            CENTRAL_OF_NONE,
+        ),
+    ] {
+        let mut bytes = three_frames(alloc, &LITTLE, &HEAD)?;
+        bytes.truncate(length);
+        let mut inputs = inputs(alloc, bytes, None)?;
+        let mut sink = MemSink::new(alloc, 4096, Vec::new(alloc))?;
+        assert_eq!(rt;
+            run(alloc, line, &mut inputs, &mut sink)?,
+            Status::Done,
+            "{line}"
+        );
+        assert_eq!(rt; sink.bytes(), text.as_bytes(), "{line}");
+    }
     Ok(())
 }
 
@@ -318,10 +354,10 @@ epoch 0 packets 3 weight 3 heaps kept
 level 0 packets 3 weight 3 keys 2 ",
         ),
         (
-            "central A --heap 1 --seed 7",
+            "central A --heap 1",
             "univmon central 1
 packets 3 keyed 3 routed 3
-sketch seed 7 levels 12 rows 5 width 1024 heap 1 weight packets
+sketch seed 1 levels 12 rows 5 width 1024 heap 1 weight packets
 epoch 0 packets 3 weight 3 heaps dropped
 level 0 packets 3 weight 3 keys 1 ",
         ),
@@ -332,6 +368,23 @@ packets 3 keyed 3 routed 3
 sketch seed 1 levels 12 rows 5 width 1024 heap 2 weight packets
 epoch 0 packets 3 weight 3 heaps kept
 level 0 packets 3 weight 3 keys 2 ",
+        ),
+        // The whole text, with negative sums.
+        (
+            "central A --seed 31 --levels 2 --rows 1 --width 16",
+            "univmon central 1
+packets 3 keyed 3 routed 3
+sketch seed 31 levels 2 rows 1 width 16 heap all weight packets
+epoch 0 packets 3 weight 3 heaps kept
+level 0 packets 3 weight 3 keys 2 nonzero 2
+level 1 packets 3 weight 3 keys 2 nonzero 2
+level 2 packets 3 weight 3 keys 2 nonzero 1
+cardinality -2
+total -5
+heavy 10.0.0.1 1000 10.1.0.2 53 17 weight 2
+heavy 10.0.0.1 1001 10.1.0.2 53 17 weight 1
+end
+",
         ),
     ] {
         let mut inputs = inputs(alloc, two_flows(alloc)?, None)?;
@@ -366,6 +419,8 @@ fn refuses_options(rt: HostRuntime) -> Result<(), Fail> {
             UsageFault::Value(Opt::Seed),
         ),
         ("central A --levels 17", UsageFault::Value(Opt::Levels)),
+        ("central A --heavy 0", UsageFault::Value(Opt::Heavy)),
+        ("central A --heavy 1001", UsageFault::Value(Opt::Heavy)),
     ] {
         let mut inputs = inputs(alloc, two_flows(alloc)?, None)?;
         let mut sink = MemSink::new(alloc, 4096, Vec::new(alloc))?;
@@ -407,6 +462,11 @@ fn each_status_has_its_number_and_line(rt: HostRuntime) -> Result<(), Fail> {
             Status::Usage(UsageFault::Value(Opt::Width)),
             2,
             "univmon: usage: value of --width",
+        ),
+        (
+            Status::Usage(UsageFault::Value(Opt::Heavy)),
+            2,
+            "univmon: usage: value of --heavy",
         ),
         (
             Status::ReadFault(Input::Trace),

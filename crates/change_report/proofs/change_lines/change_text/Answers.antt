@@ -1,4 +1,4 @@
-use Rattle.std.proofs.Common.{◌≡◌, ℕ, ℤ, List, ◌++◌, to_z, of_z, FitsSigned, ◌∙◌, ap, rules}
+use Rattle.std.proofs.Common.{ℕ, ℤ, List, ◌++◌, to_z, of_z, FitsSigned, ◌∙◌, ap, rules}
 use Rattle.std.specs.Int.{w128}
 use Rattle.std.proofs.lemmas.Int.{to_z-of_z}
 use Rattle.change_report.specs.Change.{change_line, change_lines, changed_keys, changed_lines}

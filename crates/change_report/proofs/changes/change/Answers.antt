@@ -1,4 +1,4 @@
-use Rattle.std.proofs.Common.{◌≡◌, ℕ, ◌+◌, ◌≤◌, FitsSigned, sym, ap, subst, rules}
+use Rattle.std.proofs.Common.{◌+◌, ◌≤◌, FitsSigned, subst, rules}
 use Rattle.std.specs.Int.{w128}
 use Rattle.std.proofs.lemmas.Int.{to_z-of_z}
 use Rattle.sketch_merge.specs.Merged.{View}

@@ -1,4 +1,4 @@
-use Rattle.std.proofs.Common.{◌≡◌, ◌+◌, ◌*◌, ◌++◌, ℕ, List, ℤ, unsigned_abs, ◌≤◌, length, rules, sym, ◌∙◌, ap, subst, arith, length-append}
+use Rattle.std.proofs.Common.{◌≡◌, ◌+◌, ◌*◌, ◌++◌, ℕ, List, ℤ, unsigned_abs, ◌≤◌, length, rules, sym, ◌∙◌, ap, subst, length-append}
 use Rattle.std.proofs.lemmas.List.Elements.{All-append}
 use Rattle.count_sketch.specs.Counters.{AllUpTo}
 use Rattle.sketch_levels.specs.Levels.{level_at}

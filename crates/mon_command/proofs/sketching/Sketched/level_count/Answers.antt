@@ -1,8 +1,8 @@
-use Rattle.std.proofs.Common.{◌≡◌, ◌≤◌, ◌*◌, ℕ, ℤ, List, length, sym, ◌∙◌, ap, subst, arith, rules}
+use Rattle.std.proofs.Common.{◌≤◌, ℕ, ℤ, List, length, sym, ◌∙◌, ap, subst, arith}
 use Rattle.sketch_merge.specs.Merged.{View, counters_at, keys_at}
 use Rattle.mon_command.specs.Central.{nonzero}
 use Rattle.mon_command.proofs.Packets.{level_count_is, read_at}
-use Rattle.mon_command.proofs.Views.{few_at, few_counters, view_counters, view_keys}
+use Rattle.mon_command.proofs.Views.{few_at, view_counters, view_keys}
 use Rattle.mon_command.proofs.sketching.Sketched.level_count.Goals as goal
 
 pub overflow_cast-result : goal.overflow_cast-result
