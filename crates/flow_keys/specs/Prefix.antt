@@ -45,7 +45,7 @@ is_number base most digits =
 abbrev pub number_of : ℕ → ℕ → List ℕ → Option ℕ
 number_of base most digits = if is_number base most digits then Some (digits_value base digits) else None
 
--- the numbers that parts spell, None where a part is no number; eight at most, which is what an address has
+-- the numbers that parts spell, None where a part is no number or there are more than eight, the most that an address has
 unfoldable pub numbers_of : ℕ → ℕ → List (List ℕ) → Option (List ℕ)
 numbers_of base most parts =
     if list_all (is_number base most) parts && nat_le (length parts) 8 then Some (map (digits_value base) parts) else None

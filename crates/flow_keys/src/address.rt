@@ -30,6 +30,7 @@ fn ipv4_word(numbers: &[u16]) -> Option<u32>
     Some(65536 * high + 256 * u32::from(numbers[2]) + u32::from(numbers[3]))
 }
 
+// Each number fits a byte.
 fn are_bytes(numbers: &[u16]) -> bool
     ensures value { result ≡ list_all (λ number. nat_le number 255) numbers.now }
     ensures each { result ≡ true → (k : ℕ) → slice_index numbers.now k ≤ 255 }
@@ -117,6 +118,7 @@ fn words_around(front: &[u16], back: &[u16]) -> [u32; 4]
     ]
 }
 
+// The word of two of those groups.
 fn word_around(front: &[u16], back: &[u16], at: usize) -> u32
     requires room { length front.now + length back.now ≤ 8 }
     requires at { at < 7 }
@@ -126,6 +128,7 @@ fn word_around(front: &[u16], back: &[u16], at: usize) -> u32
     65536 * high + u32::from(group_around(front, back, at + 1))
 }
 
+// One of those groups.
 fn group_around(front: &[u16], back: &[u16], at: usize) -> u16
     requires room { length front.now + length back.now ≤ 8 }
     requires at { at < 8 }

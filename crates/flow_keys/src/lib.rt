@@ -1,4 +1,5 @@
-//! Flow keys: which flow a captured frame belongs to, and how the flow is written.
+//! Flow keys: which flow a captured frame belongs to, how the flow is written, and the prefixes of
+//! addresses that hold it.
 //!
 //! - `link`: the links of pcap that are read
 //! - `key`: `FlowKey`, eleven words
@@ -6,9 +7,15 @@
 //! - `packet`: the keys of IPv4 and IPv6 packets
 //! - `numbers`: big-endian numbers
 //! - `text`: `key_text`, from a key to its text
+//! - `prefix`: `Prefix`, an IP prefix, read from a text, and the keys that it holds
+//! - `prefix_fault`: why a text is no prefix
+//! - `side`: source or destination
+//! - `address`: the texts of IPv4 and IPv6 addresses
+//! - `numerals`: numbers as digits, with separators between them
 //!
-//! `specs/Frame.antt` says by byte positions which key a frame has; `specs/Text.antt` says the text of a key.
-//! No call takes memory. Two keys with one text are one key, as `one_text_one_key` says.
+//! `specs/Frame.antt` says by byte positions which key a frame has; `specs/Text.antt` says the text of a key;
+//! `specs/Prefix.antt` says, by the parts of a text between separators, which prefix it spells, and which keys
+//! a prefix holds. No call takes memory. Two keys with one text are one key, as `one_text_one_key` says.
 #![tactic(auto)]
 
 mod address;

@@ -62,6 +62,7 @@ impl Prefix {
         Self::with_length(6, words, digits)
     }
 
+    // The prefix of an address that is read, with the text of its length.
     #[tactic(auto, unfolding(crate::specs::Prefix::with_length))]
     fn with_length(family: u32, words: [u32; 4], digits: &[u8]) -> Result<Prefix, PrefixFault>
         requires { is_prefix family words 0 ≡ true }
@@ -122,6 +123,7 @@ fn address_number(words: &[u32], at: usize) -> u128
     high + u128::from(words[at + 2]) * (1 << 32) + u128::from(words[at + 3])
 }
 
+// The first bits of a number of 128 bits.
 fn first_bits(number: u128, bits: u8) -> u128
     requires bits { bits ≤ 128 }
     requires number { number < 2 ^ 128 }

@@ -1,5 +1,5 @@
-// Worked frames, whose keys and texts were written by hand.
-use crate::{FlowKey, Link, key_of, key_text};
+// Worked frames, whose keys and texts were written by hand, and prefixes of both families.
+use crate::{FlowKey, Link, Prefix, PrefixFault, Side, key_of, key_text};
 
 // Ethernet, IPv4, UDP: 10.0.0.1 port 1000 to 10.1.0.2 port 53.
 const FRAME_A: [u8; 42] = [
@@ -68,4 +68,142 @@ fn frame_a_has_its_words(rt: HostRuntime) {
     let mut family_5 = WORDS_A;
     family_5[0] = 5;
     assert!(rt; FlowKey::from_words(family_5).is_none());
+}
+
+fn reads(text: &str, family: u32, words: [u32; 4], length: u8) -> bool {
+    match Prefix::parse(text) {
+        Ok(prefix) => prefix.family == family && prefix.words == words && prefix.length == length,
+        Err(_) => false,
+    }
+}
+
+#[test]
+fn prefixes_are_read(rt: HostRuntime) {
+    let rows = [
+        ("10.0.0.0/8", 4, [0x0a00_0000, 0, 0, 0], 8),
+        ("0.0.0.0/0", 4, [0; 4], 0),
+        ("010.000.0.001/08", 4, [0x0a00_0001, 0, 0, 0], 8),
+        ("255.255.255.255/32", 4, [0xffff_ffff, 0, 0, 0], 32),
+        ("::/0", 6, [0; 4], 0),
+        ("2001:DB8::/32", 6, [0x2001_0db8, 0, 0, 0], 32),
+        (
+            "1:2:3:4:5:6:7::/128",
+            6,
+            [0x1_0002, 0x3_0004, 0x5_0006, 0x7_0000],
+            128,
+        ),
+        (
+            "::2:3:4:5:6:7:8/1",
+            6,
+            [0x2, 0x3_0004, 0x5_0006, 0x7_0008],
+            1,
+        ),
+        (
+            "1:2:3:4:5:6:7:8/64",
+            6,
+            [0x1_0002, 0x3_0004, 0x5_0006, 0x7_0008],
+            64,
+        ),
+        ("fe80::a:b/010", 6, [0xfe80_0000, 0, 0, 0xa_000b], 10),
+    ];
+    for (text, family, words, length) in rows {
+        assert!(rt; reads(text, family, words, length), "{text}");
+    }
+}
+
+fn is_refused(text: &str, fault: PrefixFault) -> bool {
+    match Prefix::parse(text) {
+        Ok(_) => false,
+        Err(found) => found == fault,
+    }
+}
+
+#[test]
+fn other_texts_are_no_prefixes(rt: HostRuntime) {
+    let addresses = [
+        "",
+        "/8",
+        "10.0.0.0",
+        "10.0.0/8",
+        "10.0.0.0.0/8",
+        "10.0..0/8",
+        "256.0.0.0/8",
+        "0010.0.0.0/8",
+        "1::2::3/8",
+        "::1:2:3:4:5:6:7:8/128",
+        "1:2:3:4::5:6:7:8/128",
+        "1:2:3:4:5:6:7/128",
+        "1:2:3:4:5:6:7:8:9/128",
+        "::1.2.3.4/96",
+        ":1::/8",
+        ":::/8",
+        "1:2:3:4:5:6:7:/8",
+        "12345::/8",
+        "g::/8",
+    ];
+    for text in addresses {
+        assert!(rt; is_refused(text, PrefixFault::Address), "{text}");
+    }
+    let lengths = [
+        "10.0.0.0/33",
+        "10.0.0.0/",
+        "10.0.0.0/0008",
+        "10.0.0.0/+8",
+        "10.0.0.0/8/8",
+        "10.0.0.0/a",
+        "::/129",
+        "::/256",
+    ];
+    for text in lengths {
+        assert!(rt; is_refused(text, PrefixFault::Length), "{text}");
+    }
+}
+
+fn is_held(text: &str, key: &FlowKey, side: Side) -> bool {
+    match Prefix::parse(text) {
+        Ok(prefix) => prefix.holds(key, side),
+        Err(_) => false,
+    }
+}
+
+// From 10.0.0.1 to 10.1.0.2.
+#[test]
+fn prefixes_hold_an_ipv4_key(rt: HostRuntime) {
+    let key = FlowKey::from_words(WORDS_A).expect(&rt, "a key");
+    let rows = [
+        ("0.0.0.0/0", Side::Source, true),
+        ("9.9.9.9/0", Side::Destination, true),
+        ("10.99.99.99/8", Side::Source, true),
+        ("11.0.0.1/8", Side::Source, false),
+        ("10.0.0.0/31", Side::Source, true),
+        ("10.0.0.0/32", Side::Source, false),
+        ("10.0.0.1/32", Side::Source, true),
+        ("10.0.0.1/32", Side::Destination, false),
+        ("10.1.0.3/31", Side::Destination, true),
+        ("::/0", Side::Source, false),
+    ];
+    for (text, side, held) in rows {
+        assert!(rt; is_held(text, &key, side) == held, "{text}");
+    }
+}
+
+// From 2001:db8::1 to 2001:db8::2.
+#[test]
+fn prefixes_hold_an_ipv6_key(rt: HostRuntime) {
+    let key = key_of(Link::Cooked2, &FRAME_D).expect(&rt, "a key");
+    let rows = [
+        ("::/0", Side::Source, true),
+        ("20ff::/8", Side::Source, true),
+        ("2001:db9::/31", Side::Source, true),
+        ("2001:db9::/32", Side::Source, false),
+        ("2001:db8:7fff::/33", Side::Source, true),
+        ("2001:db8:8000::/33", Side::Source, false),
+        ("2001:db8::1/128", Side::Source, true),
+        ("2001:db8::1/128", Side::Destination, false),
+        ("2001:db8::3/127", Side::Destination, true),
+        ("32.1.13.184/32", Side::Source, false),
+    ];
+    for (text, side, held) in rows {
+        assert!(rt; is_held(text, &key, side) == held, "{text}");
+    }
 }

@@ -1,4 +1,4 @@
-use Rattle.std.proofs.Common.{◌≡◌, ℕ, ◌+◌, ◌≤◌, Bool, true, false, ◌&&◌, cond, List, [], ◌∷◌, length, drop, length-drop, refl, ap, arith}
+use Rattle.std.proofs.Common.{◌≡◌, ℕ, ◌≤◌, Bool, true, false, ◌&&◌, cond, List, [], ◌∷◌, length, drop, length-drop, refl, arith}
 use Rattle.flow_keys.specs.Prefix.{gap_place, is_colon}
 use Rattle.flow_keys.proofs.address.gap_place.Goals as goal
 

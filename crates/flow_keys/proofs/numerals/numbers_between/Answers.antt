@@ -1,6 +1,4 @@
-use Rattle.std.proofs.Common.{◌≡◌, ℕ, ◌≤◌, ◌==◌, ◌∷◌, [], List, Some, None, length, ap, sym, ◌∙◌, arith, rules}
-use Rattle.std.specs.List.{slice_split}
-use Rattle.flow_keys.specs.Prefix.{numbers_of}
+use Rattle.std.proofs.Common.{◌==◌, length, ap, sym, ◌∙◌, arith}
 use Rattle.flow_keys.proofs.Parts.{numbers_behind, behind_none, behind_some, behind_refused, behind_all, pushed_few, split_around, split_last}
 use Rattle.flow_keys.proofs.numerals.numbers_between.Goals as goal
 

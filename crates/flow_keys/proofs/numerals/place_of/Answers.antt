@@ -1,4 +1,4 @@
-use Rattle.std.proofs.Common.{◌≡◌, ℕ, ◌<◌, ◌≤◌, ◌==◌, true, false, length, sym, arith}
+use Rattle.std.proofs.Common.{◌==◌, length, sym, arith}
 use Rattle.std.proofs.lemmas.List.Sums.{position_or_len_is}
 use borrow.Author.Tests.{eq-eqb, ne_eqb}
 use Rattle.flow_keys.proofs.numerals.place_of.Goals as goal
