@@ -1,2 +1,4 @@
 pub mod Limits
+pub mod Placement
 pub mod Problem
+pub mod Sums
