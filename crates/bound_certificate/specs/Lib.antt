@@ -1,4 +1,9 @@
+pub mod Checked
+pub mod Formed
 pub mod Limits
+pub mod Node
 pub mod Placement
+pub mod Prices
 pub mod Problem
 pub mod Sums
+pub mod Tree

@@ -12,6 +12,7 @@ pub fn given(problem: &Problem, choices: &[u8], site: u8) -> u64
     requires { length choices.now ≤ need_count problem.now }
     ensures value { result ≡ given problem.now choices.now site }
     ensures bound { result ≤ 65535 * length choices.now }
+    ensures small { result ≤ 65535 * 64 }
 {
     let mut sum = 0;
     for i in 0..choices.len() {
@@ -98,6 +99,7 @@ pub fn cost_of(problem: &Problem, choices: &[u8]) -> u64
     requires { AreChoices problem.now choices.now }
     ensures value { result ≡ cost problem.now choices.now }
     ensures bound { result ≤ 2 ^ 37 + 4294836225 * length choices.now }
+    ensures few { need_count problem.now ≤ 64 }
 {
     opened(problem, choices) + served(problem, choices)
 }

@@ -7,17 +7,27 @@
 //!   first needs, what they carry and cost, and how the first fit goes on from them
 #![tactic(auto)]
 
+mod checker;
 mod choices;
 mod completion;
+mod dual;
+mod hall;
 mod need;
+mod node;
 mod numbers;
 mod placement;
 mod problem;
 mod site;
+mod tally;
+mod tree;
+mod verdict;
 mod within;
 
+pub use checker::check;
 pub use need::Need;
 pub use placement::{Placement, cost, first_fit, fits};
 pub use problem::Problem;
 pub use site::Site;
+pub use tree::Tree;
+pub use verdict::{TreeFault, TreeWhy, Verdict};
 pub use within::is_within;

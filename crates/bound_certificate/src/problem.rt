@@ -113,6 +113,7 @@ impl Problem {
         ensures some { 1 ≤ length result.now }
         ensures few { length result.now ≤ 8 }
         ensures known { All (λ site. site < site_count self.now) result.now }
+        ensures few_needs { need_count self.now ≤ 64 }
     {
         self.needs[need].via.as_slice()
     }
