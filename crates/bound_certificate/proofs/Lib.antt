@@ -6,3 +6,7 @@ pub mod Verdicts
 pub mod Counted
 pub mod Reached
 pub mod Nodes
+pub mod Sums
+pub mod Fitting
+pub mod Duality
+pub mod WeakDuality

@@ -41,13 +41,13 @@ first_fault-append p n (v ∷ vs) ws =
     ∙ option_or-assoc here (first_fault p (n + 1) vs) (first_fault p ((n + 1) + length vs) ws)
     ∙ ap (λ (k : ℕ). option_or (option_or here (first_fault p (n + 1) vs)) (first_fault p k ws)) number
 
-bound_of-append : (p : Problem) (vs ws : List Visit) → bound_of p (vs ++ ws) ≡ lesser (bound_of p vs) (bound_of p ws)
+pub bound_of-append : (p : Problem) (vs ws : List Visit) → bound_of p (vs ++ ws) ≡ lesser (bound_of p vs) (bound_of p ws)
 unfolding bound_of
 bound_of-append p [] ws = refl
 bound_of-append p (v ∷ vs) ws =
     ap (lesser (part_value p v.choices v.part)) (bound_of-append p vs ws) ∙ lesser-assoc (part_value p v.choices v.part) (bound_of p vs) (bound_of p ws)
 
-branches_of-append : (vs ws : List Visit) → branches_of (vs ++ ws) ≡ branches_of vs + branches_of ws
+pub branches_of-append : (vs ws : List Visit) → branches_of (vs ++ ws) ≡ branches_of vs + branches_of ws
 unfolding branches_of
 branches_of-append [] ws = omega arith
 branches_of-append (v ∷ vs) ws = omega (arith, branches_of-append vs ws)

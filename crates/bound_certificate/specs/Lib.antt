@@ -1,3 +1,4 @@
+pub mod Bound
 pub mod Checked
 pub mod Formed
 pub mod Limits

@@ -2,10 +2,11 @@
 ghost use Rattle.std.specs.Prelude.{◌≡◌, ◌≤◌, ◌<◌, ◌+◌, ◌^◌, ℕ, List, [], None, Some, length, map, sum, IsTrue, IfOk, IfErr, pos};
 ghost use Rattle.std.specs.List.{list_all};
 ghost use Rattle.bound_certificate.specs.Problem.{need_count, via};
-ghost use Rattle.bound_certificate.specs.Placement.{AreChoices};
+ghost use Rattle.bound_certificate.specs.Placement.{AreChoices, fits, cost};
 ghost use Rattle.bound_certificate.specs.Node.{node_fault};
 ghost use Rattle.bound_certificate.specs.Tree.{part_of, children_of, part_verdict, visits, below, first_fault, verdict_of};
 ghost use Rattle.bound_certificate.specs.Formed.{is_formed, is_formed_at, is_formed_part, nodes};
+ghost use Rattle.bound_certificate.specs.Bound.{IsBelow};
 ghost use Rattle.bound_certificate.specs.Checked.{Adds, IsTallied};
 
 use crate::choices::cost_of;
@@ -15,16 +16,21 @@ use crate::numbers::Numbers;
 use crate::tally::Tally;
 use crate::{Problem, Tree, TreeFault, Verdict};
 
-/// What a tree says, or its first wrong node in preorder with the first reason. Takes no memory.
+/// What a tree says, or its first wrong node in preorder with the first reason. Where it says a bound, every
+/// placement that fits costs at least that; where the bound is None, none fits. Takes no memory.
 ///
-/// The tree is within its limits: up to 4,096 Branch nodes of 1 to 8 children at depths below 64, and lambdas
-/// and mus below 2^56.
+/// The tree is within its limits: up to 4,096 Branch nodes of 1 to 8 children at depths below 64, Halls of up
+/// to 64 needs, each below 64, Duals of up to 64 lambdas and 32 mus, all below 2^56.
 pub fn check(problem: &Problem, tree: &Tree) -> Result<Verdict, TreeFault>
     requires { IsTrue (is_formed tree.now) }
     ensures ok { IfOk result (λ verdict. (first_fault problem.now 0 (visits problem.now tree.now []) ≡ None)
         × (verdict ≡ verdict_of problem.now (visits problem.now tree.now []))) }
     ensures err { IfErr result (λ fault. first_fault problem.now 0 (visits problem.now tree.now []) ≡ Some fault) }
+    ensures below { IfOk result (λ verdict. (placement : List ℕ) → IsTrue (fits problem.now placement)
+        → IsBelow verdict.bound (cost problem.now placement)) }
 {
+    // Its sites are within their limits, so that each via names one of them.
+    let _sites = problem.sites();
     match check_at(problem, tree, &Numbers::new(), 0) {
         Ok(tally) => Ok(tally.verdict),
         Err(fault) => Err(fault),
