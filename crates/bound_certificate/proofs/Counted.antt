@@ -7,7 +7,7 @@ use Rattle.std.proofs.lemmas.List.Sums.{sum_by-cons}
 use Rattle.bound_certificate.specs.Problem.{Problem}
 use Rattle.bound_certificate.specs.Node.{Part, BranchPart, OverPart, HallPart, DualPart, FullPart}
 use Rattle.bound_certificate.specs.Tree.{is_branch, part_of, children_of, child_choices, below, visits}
-use Rattle.bound_certificate.specs.Formed.{branches, nodes, is_formed_part, is_formed_at}
+use Rattle.bound_certificate.specs.Formed.{branches, nodes, is_formed_part, is_formed_at, is_formed}
 use Rattle.bound_certificate.specs.declared.tree.Tree.{Tree}
 use Rattle.bound_certificate.proofs.Trees.{visits-out, nodes-out, branches-out, is_formed_at-parts, fan, fan-part_of, tree_induction}
 
@@ -76,3 +76,8 @@ bounded = tree_induction IsBounded (λ tree each d formed.
 pub nodes-le : (tree : Tree) (d : ℕ) → is_formed_at tree d ≡ true → nodes tree ≤ 8 * branches tree + 1
 unfolding IsBounded
 nodes-le tree d formed = bounded tree d formed
+
+-- a formed tree is formed from the root
+pub formed_root : (tree : Tree) → is_formed tree ≡ true → is_formed_at tree 0 ≡ true
+unfolding is_formed
+formed_root tree formed = (and_parts (is_formed_at tree 0) (nat_le (branches tree) 4096) formed).0

@@ -10,3 +10,4 @@ pub mod Sums
 pub mod Fitting
 pub mod Duality
 pub mod WeakDuality
+pub mod Exploring

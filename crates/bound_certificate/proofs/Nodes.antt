@@ -1,5 +1,5 @@
 -- Nodes that are right, and their children.
-use Rattle.std.proofs.Common.{◌≡◌, ◌≢◌, ℕ, zero, suc, ◌+◌, ◌≤◌, ◌<◌, true, false, cond, ◌==◌, List, [], ◌∷◌, ◌++◌, length, map, get_or, None, Some, Result, Ok, Err, refl, sym, ◌∙◌, ap, subst, inl, inr, arith, length-append}
+use Rattle.std.proofs.Common.{◌≡◌, ◌≢◌, ℕ, zero, suc, ◌+◌, ◌≤◌, ◌<◌, true, false, cond, ◌==◌, List, [], ◌∷◌, ◌++◌, length, map, get_or, Option, None, Some, Result, Ok, Err, refl, sym, ◌∙◌, ap, subst, inl, inr, arith, length-append}
 use Rattle.std.specs.Prelude.{not, sum, slice_index, IfOk, IfErr}
 use Rattle.std.specs.List.{list_all}
 use Rattle.std.specs.Option.{option_map, option_or}
@@ -15,6 +15,7 @@ use Rattle.bound_certificate.specs.Formed.{nodes, is_formed_at}
 use Rattle.bound_certificate.specs.Checked.{Adds, IsTallied}
 use Rattle.bound_certificate.specs.declared.tree.Tree.{Tree}
 use Rattle.bound_certificate.specs.declared.tally.Tally.{Tally}
+use Rattle.bound_certificate.specs.declared.verdict.TreeFault.{TreeFault}
 use Rattle.bound_certificate.specs.declared.verdict.TreeWhy.{TreeWhy}
 use Rattle.bound_certificate.specs.declared.verdict.TreeWhy.TheVariants.{IsOver, Depth, Children, Idle}
 use Rattle.bound_certificate.proofs.Below.{below_or_last}
@@ -99,23 +100,26 @@ pub has-at : (xs : List ℕ) (n : ℕ) → n < length xs → has xs (slice_index
 unfolding has
 has-at xs n within = list_any_at (λ y. y == slice_index xs n) xs n 0 within (eq-eqb (slice_index xs n) (slice_index xs n) refl)
 
--- one more choice
-pub choices_more : (p : Problem) (cs : List ℕ) (n : ℕ) → AreChoices p cs → length cs < need_count p → n < length (via p (length cs)) → AreChoices p (child_choices p cs n)
-unfolding child_choices is_chosen
-choices_more p cs n are above within =
-    let site = slice_index (via p (length cs)) n in
+-- one more choice, which stands in the next need's via
+pub choices_push : (p : Problem) (cs : List ℕ) (s : ℕ) → AreChoices p cs → length cs < need_count p → has (via p (length cs)) s ≡ true → AreChoices p (cs ++ s ∷ [])
+unfolding is_chosen
+choices_push p cs s are above stands =
+    let size : length (cs ++ s ∷ []) ≡ length cs + 1 = simp length-append in
     record {
-      few = simp length-append (omega arith);
+      few = omega (arith, size);
       each = λ i below.
-          let size : length (cs ++ site ∷ []) ≡ length cs + 1 = simp length-append in
           let small : i < suc (length cs) = omega (arith, size) in
           elim (below_or_last i (length cs) small) [
-            | inl lower ↦ ap (has (via p i)) (get_or_append_left cs (site ∷ []) 0 i lower) ∙ are.each i lower
+            | inl lower ↦ ap (has (via p i)) (get_or_append_left cs (s ∷ []) 0 i lower) ∙ are.each i lower
             | inr last ↦
-                subst (λ (k : ℕ). has (via p k) (get_or (cs ++ site ∷ []) k 0) ≡ true) (sym last)
-                (ap (has (via p (length cs))) (get_or_push cs site 0 (length cs) refl) ∙ has-at (via p (length cs)) n within)
+                subst (λ (k : ℕ). has (via p k) (get_or (cs ++ s ∷ []) k 0) ≡ true) (sym last)
+                (ap (has (via p (length cs))) (get_or_push cs s 0 (length cs) refl) ∙ stands)
           ];
     }
+
+pub choices_more : (p : Problem) (cs : List ℕ) (n : ℕ) → AreChoices p cs → length cs < need_count p → n < length (via p (length cs)) → AreChoices p (child_choices p cs n)
+unfolding child_choices
+choices_more p cs n are above within = choices_push p cs (slice_index (via p (length cs)) n) are above (has-at (via p (length cs)) n within)
 
 pub length-child_choices : (p : Problem) (cs : List ℕ) (n : ℕ) → length (child_choices p cs n) ≡ length cs + 1
 unfolding child_choices
@@ -142,3 +146,21 @@ part_branches p cs OverPart = omega arith
 part_branches p cs (HallPart names) = omega arith
 part_branches p cs (DualPart lambda mu) = omega arith
 part_branches p cs FullPart = omega arith
+
+-- no fault in a list is none in either part
+pub none_first : {X : Type 0} (a b : Option X) → option_or a b ≡ None → (a ≡ None) × (b ≡ None)
+none_first None b none = (refl, none)
+none_first (Some x) b none = cc
+
+pub none_mapped : {X Y : Type 0} (f : X → Y) (a : Option X) → option_map f a ≡ None → a ≡ None
+none_mapped f None none = refl
+none_mapped f (Some x) none = cc
+
+-- where no node of a tree is wrong, the root is right, and so are those below it
+pub node_is_right : (p : Problem) (tree : Tree) (cs : List ℕ) (n : ℕ) → first_fault p n (visits p tree cs) ≡ None → (node_fault p cs (part_of tree) ≡ None) × (first_fault p (n + 1) (below p cs 0 (map (visits p) (children_of tree))) ≡ None)
+unfolding first_fault
+node_is_right p tree cs n none =
+    let made : TreeWhy → TreeFault = λ why. record { node = n; why = why } in
+    let parts = none_first (option_map made (node_fault p cs (part_of tree))) (first_fault p (n + 1) (below p cs 0 (map (visits p) (children_of tree))))
+    (sym (ap (first_fault p n) (visits-out p tree cs)) ∙ none) in
+    (none_mapped made (node_fault p cs (part_of tree)) parts.0, parts.1)

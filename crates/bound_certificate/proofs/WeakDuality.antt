@@ -2,7 +2,7 @@
 use Rattle.std.proofs.Common.{◌≡◌, ℕ, zero, suc, ◌+◌, ◌-◌, ◌≤◌, ◌<◌, Bool, true, false, cond, ◌==◌, ◌&&◌, ◌||◌, List, [], ◌∷◌, length, map, slice_index, Option, None, Some, ℤ, pos, ◌≤ℤ◌, refl, sym, ◌∙◌, ap, subst, arith}
 use Rattle.std.specs.Prelude.{nat_lt, nat_le, not}
 use Rattle.std.specs.List.{AllByRecursion}
-use Rattle.std.specs.Option.{option_map, option_or}
+use Rattle.std.specs.Option.{option_map}
 use Rattle.std.specs.Int.{int_min}
 use Rattle.std.proofs.lemmas.Bool.{ltb-true, leb-true, and_parts, eqb-true}
 use Rattle.std.proofs.lemmas.Bool.Decides.{nat_tests}
@@ -15,14 +15,12 @@ use Rattle.bound_certificate.specs.Node.{Part, BranchPart, OverPart, HallPart, D
 use Rattle.bound_certificate.specs.Tree.{part_of, children_of, child_choices, below, visits, first_fault, part_value, lesser, bound_of, is_branch}
 use Rattle.bound_certificate.specs.Bound.{IsBelow}
 use Rattle.bound_certificate.specs.declared.tree.Tree.{Tree}
-use Rattle.bound_certificate.specs.declared.verdict.TreeWhy.{TreeWhy}
 use Rattle.bound_certificate.specs.declared.verdict.TreeWhy.TheVariants.{NotOver, IsOver, Depth, HallSet, HallLoad, DualShape, DualSum}
-use Rattle.bound_certificate.specs.declared.verdict.TreeFault.{TreeFault}
 use Rattle.bound_certificate.proofs.Below.{all_below-at}
 use Rattle.bound_certificate.proofs.Prices.{if_none, if_not}
 use Rattle.bound_certificate.proofs.Trees.{visits-out, fan, fan-part_of, tree_induction}
 use Rattle.bound_certificate.proofs.Verdicts.{first_fault-append, bound_of-append}
-use Rattle.bound_certificate.proofs.Nodes.{branch_right, choices_more}
+use Rattle.bound_certificate.proofs.Nodes.{none_first, none_mapped, node_is_right, branch_right, choices_more}
 use Rattle.bound_certificate.proofs.Fitting.{IsFitting, fitting, Extends, extends_nothing, has-place, extends_child, given-le, cost-le}
 use Rattle.bound_certificate.proofs.Duality.{not_crowded, dual_le, dual_below}
 
@@ -43,26 +41,9 @@ lesser_right None b c is = is
 lesser_right (Some x) None c is = absurd is
 lesser_right (Some x) (Some y) c is = int_min_right x y (pos c) is
 
--- no fault in a list is none in either part
-none_first : {X : Type 0} (a b : Option X) → option_or a b ≡ None → (a ≡ None) × (b ≡ None)
-none_first None b none = (refl, none)
-none_first (Some x) b none = cc
-
-none_mapped : {X Y : Type 0} (f : X → Y) (a : Option X) → option_map f a ≡ None → a ≡ None
-none_mapped f None none = refl
-none_mapped f (Some x) none = cc
-
 if_some : {X : Type 0} (b : Bool) (z : X) → cond b None (Some z) ≡ None → b ≡ true
 if_some true z h = refl
 if_some false z h = cc
-
-pub node_is_right : (p : Problem) (tree : Tree) (cs : List ℕ) (n : ℕ) → first_fault p n (visits p tree cs) ≡ None → (node_fault p cs (part_of tree) ≡ None) × (first_fault p (n + 1) (below p cs 0 (map (visits p) (children_of tree))) ≡ None)
-unfolding first_fault
-node_is_right p tree cs n none =
-    let made : TreeWhy → TreeFault = λ why. record { node = n; why = why } in
-    let parts = none_first (option_map made (node_fault p cs (part_of tree))) (first_fault p (n + 1) (below p cs 0 (map (visits p) (children_of tree))))
-    (sym (ap (first_fault p n) (visits-out p tree cs)) ∙ none) in
-    (none_mapped made (node_fault p cs (part_of tree)) parts.0, parts.1)
 
 -- no placement that fits goes on from a node that is over
 over_absurd : (p : Problem) (cs qs : List ℕ) → IsFitting p qs → Extends cs qs → is_over p cs ≡ true → ⊥

@@ -1,8 +1,10 @@
 pub mod Bound
 pub mod Checked
+pub mod Floor
 pub mod Formed
 pub mod Limits
 pub mod Node
+pub mod Outcome
 pub mod Placement
 pub mod Prices
 pub mod Problem

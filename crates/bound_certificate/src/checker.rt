@@ -93,8 +93,8 @@ fn check_children(
     Ok(tally)
 }
 
-// The children of a node: none where it is no Branch.
-fn children(tree: &Tree) -> &[Tree]
+/// The children of a node: none where it is no Branch.
+pub fn children(tree: &Tree) -> &[Tree]
     ensures { result.now ≡ children_of tree.now }
 {
     match tree {

@@ -1,7 +1,8 @@
 //! Choices completed to a placement, each need at the first site with room left.
-ghost use Rattle.std.specs.Prelude.{◌≡◌, ◌≤◌, ◌<◌, ◌-◌, length};
-ghost use Rattle.bound_certificate.specs.Problem.{site_count, need_count};
-ghost use Rattle.bound_certificate.specs.Placement.{first_with_room, has_room, completed};
+ghost use Rattle.std.specs.Prelude.{◌≡◌, ◌≤◌, ◌<◌, ◌-◌, length, IfSome, IsTrue};
+ghost use Rattle.bound_certificate.specs.Problem.{site_count, need_count, via};
+ghost use Rattle.bound_certificate.specs.Placement.{AreChoices, first_with_room, has_room, completed};
+ghost use Rattle.bound_certificate.specs.Sums.{has};
 
 use crate::Problem;
 use crate::choices::given;
@@ -11,8 +12,9 @@ use crate::numbers::Numbers;
 /// None exactly where some need finds none.
 #[tactic(auto, unfolding(crate::specs::Placement::completed))]
 pub fn complete(problem: &Problem, choices: &Numbers) -> Option<Numbers>
-    requires { length choices.now ≤ need_count problem.now }
-    ensures { result ≡ completed problem.now choices.now (need_count problem.now - length choices.now) }
+    requires { AreChoices problem.now choices.now }
+    ensures value { result ≡ completed problem.now choices.now (need_count problem.now - length choices.now) }
+    ensures choices { IfSome result (λ completed. AreChoices problem.now completed) }
 {
     let mut completed = choices.copied();
     for _ in choices.len()..usize::from(problem.need_count()) {
@@ -28,7 +30,8 @@ pub fn complete(problem: &Problem, choices: &Numbers) -> Option<Numbers>
 #[tactic(auto, unfolding(crate::specs::Placement::first_with_room))]
 fn first_with_room(problem: &Problem, choices: &Numbers) -> Option<u8>
     requires { length choices.now < need_count problem.now }
-    ensures { result ≡ first_with_room problem.now choices.now }
+    ensures value { result ≡ first_with_room problem.now choices.now }
+    ensures stands { IfSome result (λ site. IsTrue (has (via problem.now (length choices.now)) site)) }
 {
     let via = problem.via(choices.len());
     for site in via {

@@ -67,9 +67,9 @@ fn is_breached(problem: &Problem, choices: &[u8], lambda: &[u64], mu: &[u64], si
     u128::from(dual_limit(problem, choices, site)) < dual_sum(problem, choices, lambda, mu, site)
 }
 
-// What opening a site would cost, and nothing where a choice opened it.
+/// What opening a site would cost, and nothing where a choice opened it.
 #[tactic(auto, unfolding(crate::specs::Node::dual_limit))]
-fn dual_limit(problem: &Problem, choices: &[u8], site: u8) -> u32
+pub fn dual_limit(problem: &Problem, choices: &[u8], site: u8) -> u32
     requires { site < site_count problem.now }
     ensures { result ≡ dual_limit problem.now choices.now site }
 {

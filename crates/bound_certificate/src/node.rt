@@ -56,9 +56,9 @@ fn unless_over(is_over: bool, fault: Option<TreeWhy>) -> Option<TreeWhy>
     }
 }
 
-// Whether the site of the last choice carries more than its capacity.
+/// Whether the site of the last choice carries more than its capacity.
 #[tactic(auto, unfolding(crate::specs::Node::is_over))]
-fn is_over(problem: &Problem, choices: &[u8]) -> bool
+pub fn is_over(problem: &Problem, choices: &[u8]) -> bool
     requires { AreChoices problem.now choices.now }
     ensures { result ≡ is_over problem.now choices.now }
 {
