@@ -11,3 +11,5 @@ pub mod Fitting
 pub mod Duality
 pub mod WeakDuality
 pub mod Exploring
+pub mod Wholes
+pub mod Meanings

@@ -75,7 +75,7 @@ sum_below-swap f c m (suc n) known =
     omega (arith, before, last, both)
 
 -- the first term apart
-sum_below-first : (f : ℕ → ℕ) (n : ℕ) → sum_below f (suc n) ≡ f 0 + sum_below (λ j. f (suc j)) n
+pub sum_below-first : (f : ℕ → ℕ) (n : ℕ) → sum_below f (suc n) ≡ f 0 + sum_below (λ j. f (suc j)) n
 sum_below-first f zero = omega arith
 sum_below-first f (suc n) = omega (arith, sum_below-first f n)
 

@@ -10,3 +10,5 @@ pub mod Prices
 pub mod Problem
 pub mod Sums
 pub mod Tree
+pub mod Meaning
+pub mod Whole

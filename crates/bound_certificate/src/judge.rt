@@ -5,6 +5,7 @@ ghost use Rattle.bound_certificate.specs.Problem.{need_count, via};
 ghost use Rattle.bound_certificate.specs.Placement.{AreChoices, cost, fits};
 ghost use Rattle.bound_certificate.specs.Tree.{children_of, visits, below, first_fault, bound_of, branches_of, verdict_of};
 ghost use Rattle.bound_certificate.specs.Formed.{is_formed, is_formed_at};
+ghost use Rattle.bound_certificate.specs.Meaning.{Shows};
 ghost use Rattle.bound_certificate.specs.Outcome.{are_explored, first_fit_cost, is_bound, is_best, is_spent, tree_of, judged, judgement};
 
 use crate::checker::{check, children};
@@ -17,6 +18,9 @@ use crate::{Outcome, OutcomeFault, Problem, Tree, Verdict};
 
 /// What an outcome's tree says where the outcome of a search with this many Branch nodes is right, else the
 /// first fault. Takes no memory. The tree is within its limits, as for `check`.
+///
+/// A right placement costs no more than first fit's and is of least cost where the bound is its cost or the
+/// search had more nodes than any tree can have; where infeasibility is right, no placement fits.
 ///
 /// - `Tree`: a node of the tree is wrong, as `check` says.
 /// - `Branches`: the tree has more Branch nodes than the search had.
@@ -34,7 +38,10 @@ pub fn check_outcome(
 ) -> Result<Verdict, OutcomeFault>
     requires { IsTrue (is_formed (tree_of outcome.now)) }
     ensures judged { result ≡ judgement problem.now nodes outcome.now }
+    ensures shows { IfOk result (Shows problem.now nodes outcome.now) }
 {
+    // Its sites are within their limits, so that each via names one of them.
+    let _sites = problem.sites();
     let verdict = match check(problem, outcome.tree()) {
         Ok(verdict) => verdict,
         Err(fault) => return Err(OutcomeFault::Tree(fault)),
