@@ -1,0 +1,15 @@
+pub mod Below
+pub mod Known
+pub mod Trees
+pub mod Prices
+pub mod Verdicts
+pub mod Counted
+pub mod Reached
+pub mod Nodes
+pub mod Sums
+pub mod Fitting
+pub mod Duality
+pub mod WeakDuality
+pub mod Exploring
+pub mod Wholes
+pub mod Meanings

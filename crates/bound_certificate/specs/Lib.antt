@@ -1,2 +1,14 @@
+pub mod Bound
+pub mod Checked
+pub mod Floor
+pub mod Formed
 pub mod Limits
+pub mod Node
+pub mod Outcome
+pub mod Placement
+pub mod Prices
 pub mod Problem
+pub mod Sums
+pub mod Tree
+pub mod Meaning
+pub mod Whole

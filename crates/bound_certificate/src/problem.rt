@@ -1,5 +1,7 @@
 //! Sites and needs within their limits.
-ghost use Rattle.std.specs.Prelude.{◌≡◌};
+ghost use Rattle.std.specs.Prelude.{◌≡◌, ◌<◌, ◌≤◌, ◌*◌, length, All};
+ghost use Rattle.bound_certificate.specs.Problem.{site_count, need_count, capacity, opening, unit, load, via};
+ghost use Rattle.bound_certificate.specs.Placement.{service};
 ghost use Rattle.bound_certificate.specs.Limits.{IsWithin};
 
 use crate::{Need, Site};
@@ -50,5 +52,82 @@ impl Problem {
         ensures within { IsWithin self.now.sites self.now.needs }
     {
         &self.needs
+    }
+
+    /// How many sites there are.
+    #[inline]
+    pub fn site_count(&self) -> u8
+        ensures value { result ≡ site_count self.now }
+        ensures few { result ≤ 32 }
+        ensures few_needs { need_count self.now ≤ 64 }
+    {
+        self.sites.len() as u8
+    }
+
+    /// How many needs there are.
+    #[inline]
+    pub fn need_count(&self) -> u8
+        ensures value { result ≡ need_count self.now }
+        ensures few { result ≤ 64 }
+    {
+        self.needs.len() as u8
+    }
+
+    /// The capacity of a site.
+    #[inline]
+    #[tactic(auto, unfolding(crate::specs::Problem::capacity))]
+    pub fn capacity(&self, site: usize) -> u32
+        requires { site < site_count self.now }
+        ensures { result ≡ capacity self.now site }
+    {
+        self.sites[site].capacity
+    }
+
+    /// The cost of opening a site.
+    #[inline]
+    #[tactic(auto, unfolding(crate::specs::Problem::opening))]
+    pub fn opening(&self, site: usize) -> u32
+        requires { site < site_count self.now }
+        ensures { result ≡ opening self.now site }
+    {
+        self.sites[site].opening
+    }
+
+    /// The load of a need.
+    #[inline]
+    #[tactic(auto, unfolding(crate::specs::Problem::load))]
+    pub fn load(&self, need: usize) -> u16
+        requires { need < need_count self.now }
+        ensures value { result ≡ load self.now need }
+        ensures few { need_count self.now ≤ 64 }
+    {
+        self.needs[need].load
+    }
+
+    /// The sites that can serve a need.
+    #[inline]
+    #[tactic(auto, unfolding(crate::specs::Problem::via))]
+    pub fn via(&self, need: usize) -> &[u8]
+        requires { need < need_count self.now }
+        ensures value { result.now ≡ via self.now need }
+        ensures some { 1 ≤ length result.now }
+        ensures few { length result.now ≤ 8 }
+        ensures known { All (λ site. site < site_count self.now) result.now }
+        ensures few_needs { need_count self.now ≤ 64 }
+    {
+        self.needs[need].via.as_slice()
+    }
+
+    /// What it costs to serve a need from a site: its load times the site's cost per unit.
+    #[inline]
+    #[tactic(auto, unfolding(crate::specs::Problem::unit, crate::specs::Problem::load, crate::specs::Placement::service))]
+    pub fn service(&self, site: usize, need: usize) -> u64
+        requires site { site < site_count self.now }
+        requires need { need < need_count self.now }
+        ensures value { result ≡ service self.now site need }
+        ensures bound { result ≤ 65535 * 65535 }
+        ensures few { need_count self.now ≤ 64 }
+    {
+        u64::from(self.sites[site].unit) * u64::from(self.needs[need].load)
     }
 }

@@ -1,5 +1,5 @@
 // The paths that keys take.
-use super::SWITCH;
+use super::{SWITCH, file_of};
 use crate::Topology;
 use flow_keys::FlowKey;
 use std::process::Abort;
@@ -9,48 +9,36 @@ const WIDE: &str = "{name='wide',from='10.0.0.0/8',to='0.0.0.0/0',load=5,via=['s
 
 const NARROW: &str = "{name='narrow',from='10.0.0.0/16',to='10.1.0.0/16',load=5,via=['s0']}";
 
-// The key of a packet of UDP between these IPv4 addresses.
-fn key(rt: &impl Abort, source: u32, destination: u32) -> FlowKey {
-    let words = [4, source, 0, 0, 0, destination, 0, 0, 0, 0, 17];
-    FlowKey::from_words(words).expect(rt, "a valid key")
+// 10.0.0.1 to 10.1.0.2, 10.9.0.1 to 10.1.0.2, 10.1.0.2 to 10.0.0.1, 11.0.0.1 to 10.1.0.2, and the
+// first of these in IPv6.
+const ENDS: [(u32, u32, u32); 5] = [
+    (4, 0x0a00_0001, 0x0a01_0002),
+    (4, 0x0a09_0001, 0x0a01_0002),
+    (4, 0x0a01_0002, 0x0a00_0001),
+    (4, 0x0b00_0001, 0x0a01_0002),
+    (6, 0x0a00_0001, 0x0a01_0002),
+];
+
+fn route(rt: &impl Abort, topology: &Topology, ends: (u32, u32, u32)) -> Option<usize> {
+    let (family, source, destination) = ends;
+    let words = [family, source, 0, 0, 0, destination, 0, 0, 0, 0, 17];
+    let key = FlowKey::from_words(words).expect(rt, "a valid key");
+    topology.route(&key)
 }
 
-// 10.0.0.1 to 10.1.0.2, 10.9.0.1 to 10.1.0.2, 10.1.0.2 to 10.0.0.1, and 11.0.0.1 to 10.1.0.2.
-fn assert_routes(rt: &impl Abort, topology: &Topology, routes: [Option<usize>; 4]) {
-    let ends = [
-        (0x0a00_0001, 0x0a01_0002),
-        (0x0a09_0001, 0x0a01_0002),
-        (0x0a01_0002, 0x0a00_0001),
-        (0x0b00_0001, 0x0a01_0002),
+#[test]
+fn the_first_path_that_takes_the_key(rt: HostRuntime) -> Result<(), Fail> {
+    let cases = [
+        (WIDE, NARROW, [Some(0), Some(0), Some(0), None, None]),
+        (NARROW, WIDE, [Some(0), Some(1), Some(1), None, None]),
     ];
-    for (at, (source, destination)) in ends.iter().enumerate() {
-        let key = key(rt, *source, *destination);
-        assert_eq!(rt; topology.route(&key), routes[at], "case {at}");
+    for (first, second, routes) in cases {
+        let paths = format!(in rt.alloc(); "{first},{second}")?;
+        let file = file_of(rt.alloc(), SWITCH, paths.as_str())?;
+        let topology = Topology::from_toml(rt.alloc(), file.as_bytes()).expect(&rt, "a topology");
+        for (at, ends) in ENDS.iter().enumerate() {
+            assert_eq!(rt; route(&rt, &topology, *ends), routes[at], "{first}");
+        }
     }
-}
-
-#[test]
-fn the_wide_path_first(rt: HostRuntime) -> Result<(), Fail> {
-    let file = format!(in rt.alloc(); "switch = [{SWITCH}]\npath = [{WIDE},{NARROW}]")?;
-    let topology = Topology::from_toml(rt.alloc(), file.as_bytes()).expect(&rt, "a topology");
-    assert_routes(&rt, &topology, [Some(0), Some(0), Some(0), None]);
-    Ok(())
-}
-
-#[test]
-fn the_narrow_path_first(rt: HostRuntime) -> Result<(), Fail> {
-    let file = format!(in rt.alloc(); "switch = [{SWITCH}]\npath = [{NARROW},{WIDE}]")?;
-    let topology = Topology::from_toml(rt.alloc(), file.as_bytes()).expect(&rt, "a topology");
-    assert_routes(&rt, &topology, [Some(0), Some(1), Some(1), None]);
-    Ok(())
-}
-
-#[test]
-fn a_key_of_the_other_family(rt: HostRuntime) -> Result<(), Fail> {
-    let file = format!(in rt.alloc(); "switch = [{SWITCH}]\npath = [{WIDE}]")?;
-    let topology = Topology::from_toml(rt.alloc(), file.as_bytes()).expect(&rt, "a topology");
-    let words = [6, 0x0a00_0001, 0, 0, 0, 0x0a01_0002, 0, 0, 0, 0, 17];
-    let key = FlowKey::from_words(words).expect(&rt, "a valid key");
-    assert_eq!(rt; topology.route(&key), None);
     Ok(())
 }
