@@ -13,6 +13,7 @@ mod completion;
 mod dual;
 mod explored;
 mod floors;
+mod formed;
 mod hall;
 mod judge;
 mod need;
@@ -28,6 +29,7 @@ mod verdict;
 mod within;
 
 pub use checker::check;
+pub use formed::is_formed;
 pub use judge::check_outcome;
 pub use need::Need;
 pub use outcome::{Outcome, OutcomeFault};
@@ -37,3 +39,6 @@ pub use site::Site;
 pub use tree::Tree;
 pub use verdict::{TreeFault, TreeWhy, Verdict};
 pub use within::is_within;
+
+#[cfg(test)]
+mod tests;
