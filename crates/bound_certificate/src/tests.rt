@@ -66,6 +66,12 @@ fn fork(alloc: Global, one: Tree, other: Tree) -> Result<Tree, AllocError> {
     Ok(Tree::Branch(children))
 }
 
+fn chain(alloc: Global, only: Tree) -> Result<Tree, AllocError> {
+    let mut children = Items::new(alloc);
+    children.push(only)?;
+    Ok(Tree::Branch(children))
+}
+
 // A Branch with two Dual leaves of one lambda each.
 fn two_duals(alloc: Global, one: u64, other: u64) -> Result<Tree, AllocError> {
     let one = dual(alloc, &[one], &[0, 0])?;
@@ -75,42 +81,71 @@ fn two_duals(alloc: Global, one: u64, other: u64) -> Result<Tree, AllocError> {
 
 // The tree of five Branch nodes whose leaves are all over.
 fn all_over(alloc: Global) -> Result<Tree, AllocError> {
-    let left = fork(alloc, Tree::Over, fork(alloc, Tree::Over, Tree::Over)?)?;
-    let right = fork(alloc, fork(alloc, Tree::Over, Tree::Over)?, Tree::Over)?;
+    let overs = fork(alloc, Tree::Over, Tree::Over)?;
+    let left = fork(alloc, Tree::Over, overs)?;
+    let overs = fork(alloc, Tree::Over, Tree::Over)?;
+    let right = fork(alloc, overs, Tree::Over)?;
     fork(alloc, left, right)
 }
 
-fn checked(rt: &impl Abort, problem: &Problem, tree: &Tree) -> Result<Verdict, TreeFault> {
+// What the check of a tree answers.
+fn checks(rt: &impl Abort, problem: &Problem, tree: &Tree, expected: Result<Verdict, TreeFault>) {
     assert!(rt; is_formed(tree), "a tree within its limits");
-    check(problem, tree)
-}
-
-fn judged(
-    rt: &impl Abort,
-    problem: &Problem,
-    nodes: u32,
-    outcome: &Outcome,
-) -> Result<Verdict, OutcomeFault> {
-    assert!(rt; is_formed(outcome.tree()), "a tree within its limits");
-    check_outcome(problem, nodes, outcome)
-}
-
-fn placed(alloc: Global, sites: &[u8], tree: Tree) -> Result<Outcome, AllocError> {
-    let sites = Items::from_slice(alloc, sites)?;
-    Ok(Outcome::Placed {
-        placement: Placement { sites },
-        tree,
-    })
+    assert_eq!(rt; check(problem, tree), expected);
 }
 
 fn wrong(node: u32, why: TreeWhy) -> Result<Verdict, TreeFault> {
     Err(TreeFault { node, why })
 }
 
+// What the judgement of an outcome answers.
+fn judges(
+    rt: &impl Abort,
+    problem: &Problem,
+    nodes: u32,
+    outcome: &Outcome,
+    expected: Result<Verdict, OutcomeFault>,
+) {
+    assert!(rt; is_formed(outcome.tree()), "a tree within its limits");
+    assert_eq!(rt; check_outcome(problem, nodes, outcome), expected);
+}
+
+// The same of a placement.
+fn judges_placed(
+    rt: &impl Abort,
+    alloc: Global,
+    sites: &[u8],
+    tree: Tree,
+    nodes: u32,
+    expected: Result<Verdict, OutcomeFault>,
+) -> Result<(), AllocError> {
+    let problem = two_prices(rt, alloc, 0)?;
+    let sites = Items::from_slice(alloc, sites)?;
+    let placement = Placement { sites };
+    let outcome = Outcome::Placed { placement, tree };
+    judges(rt, &problem, nodes, &outcome, expected);
+    Ok(())
+}
+
+fn bound(bound: i128, branches: u32) -> Verdict {
+    Verdict {
+        bound: Some(bound),
+        branches,
+        full: false,
+    }
+}
+
+fn no_bound(branches: u32) -> Verdict {
+    Verdict {
+        bound: None,
+        branches,
+        full: false,
+    }
+}
+
 #[test]
 fn placements(rt: HostRuntime) -> Result<(), Fail> {
-    let alloc = rt.alloc();
-    let problem = two_prices(&rt, alloc, 0)?;
+    let problem = two_prices(&rt, rt.alloc(), 0)?;
     let table = [
         ([0, 0], true, 13),
         ([0, 1], true, 21),
@@ -118,152 +153,179 @@ fn placements(rt: HostRuntime) -> Result<(), Fail> {
         ([1, 1], true, 12),
     ];
     for (sites, does_fit, costs) in table {
-        let sites = Items::from_slice(alloc, &sites)?;
+        let sites = Items::from_slice(rt.alloc(), &sites)?;
         let placement = Placement { sites };
         assert_eq!(rt; fits(&problem, &placement), does_fit);
         if fits(&problem, &placement) {
             assert_eq!(rt; cost(&problem, &placement), costs);
         }
     }
-    let first = first_fit(alloc, &problem).expect(&rt, "ample memory");
-    let first = first.ok_or("first fit places each need")?;
-    assert_eq!(rt; first.sites.as_slice(), [0, 0].as_slice());
-    let none = first_fit(alloc, &too_coarse(&rt, alloc)?).expect(&rt, "ample memory");
-    assert!(rt; none.is_none(), "the third need finds no room");
-    let both = Placement {
-        sites: Items::from_slice(alloc, &[0, 0])?,
-    };
-    assert!(rt; !fits(&too_small(&rt, alloc)?, &both), "10 is above 8");
     Ok(())
 }
 
 #[test]
-fn trees(rt: HostRuntime) -> Result<(), Fail> {
-    let alloc = rt.alloc();
-    let small = too_small(&rt, alloc)?;
-    let coarse = too_coarse(&rt, alloc)?;
-    let priced = two_prices(&rt, alloc, 0)?;
-    let found = Ok(Verdict {
-        bound: Some(12),
-        branches: 1,
-        full: false,
-    });
-    assert_eq!(rt; checked(&rt, &priced, &two_duals(alloc, 4, 0)?), found);
-    let steep = dual(alloc, &[13, 0], &[0, 0])?;
-    assert_eq!(rt;
-        checked(&rt, &priced, &steep),
-        wrong(0, TreeWhy::DualSum { switch: 0 })
-    );
-    let both = fork(alloc, dual(alloc, &[4], &[0])?, Tree::Full)?;
-    assert_eq!(rt; checked(&rt, &priced, &both), wrong(1, TreeWhy::DualShape));
-    assert_eq!(rt;
-        checked(&rt, &coarse, &Tree::Over),
-        wrong(0, TreeWhy::NotOver)
-    );
-    assert_eq!(rt;
-        checked(&rt, &coarse, &Tree::Full),
-        wrong(0, TreeWhy::Depth)
-    );
-    let none = Ok(Verdict {
-        bound: None,
-        branches: 5,
-        full: false,
-    });
-    assert_eq!(rt; checked(&rt, &coarse, &all_over(alloc)?), none);
-    let all = Tree::Hall(Items::from_slice(alloc, &[0, 1, 2])?);
-    assert_eq!(rt; checked(&rt, &coarse, &all), wrong(0, TreeWhy::HallLoad));
-    let twice = Tree::Hall(Items::from_slice(alloc, &[0, 0])?);
-    assert_eq!(rt; checked(&rt, &small, &twice), wrong(0, TreeWhy::HallSet));
-    let mut inner = Items::new(alloc);
-    inner.push(Tree::Over)?;
-    let mut outer = Items::new(alloc);
-    outer.push(Tree::Branch(inner))?;
-    assert_eq!(rt;
-        checked(&rt, &small, &Tree::Branch(outer)),
-        wrong(0, TreeWhy::Idle)
-    );
+fn ten_is_above_eight(rt: HostRuntime) -> Result<(), Fail> {
+    let problem = too_small(&rt, rt.alloc())?;
+    let sites = Items::from_slice(rt.alloc(), &[0, 0])?;
+    assert!(rt; !fits(&problem, &Placement { sites }), "10 is above 8");
+    Ok(())
+}
+
+#[test]
+fn first_fit_takes_the_first_site(rt: HostRuntime) -> Result<(), Fail> {
+    let problem = two_prices(&rt, rt.alloc(), 0)?;
+    let found = first_fit(rt.alloc(), &problem).expect(&rt, "ample memory");
+    let found = found.ok_or("each need finds room")?;
+    assert_eq!(rt; found.sites.as_slice(), [0, 0].as_slice());
+    Ok(())
+}
+
+#[test]
+fn first_fit_finds_no_room(rt: HostRuntime) -> Result<(), Fail> {
+    let problem = too_coarse(&rt, rt.alloc())?;
+    let found = first_fit(rt.alloc(), &problem).expect(&rt, "ample memory");
+    assert!(rt; found.is_none(), "the third need finds no room");
+    Ok(())
+}
+
+#[test]
+fn a_tree_of_two_duals(rt: HostRuntime) -> Result<(), Fail> {
+    let problem = two_prices(&rt, rt.alloc(), 0)?;
+    let tree = two_duals(rt.alloc(), 4, 0)?;
+    checks(&rt, &problem, &tree, Ok(bound(12, 1)));
+    Ok(())
+}
+
+#[test]
+fn a_dual_above_a_site(rt: HostRuntime) -> Result<(), Fail> {
+    let problem = two_prices(&rt, rt.alloc(), 0)?;
+    let tree = dual(rt.alloc(), &[13, 0], &[0, 0])?;
+    let why = TreeWhy::DualSum { switch: 0 };
+    checks(&rt, &problem, &tree, wrong(0, why));
+    Ok(())
+}
+
+#[test]
+fn leaves_at_the_root(rt: HostRuntime) -> Result<(), Fail> {
+    let problem = too_coarse(&rt, rt.alloc())?;
+    checks(&rt, &problem, &Tree::Over, wrong(0, TreeWhy::NotOver));
+    checks(&rt, &problem, &Tree::Full, wrong(0, TreeWhy::Depth));
+    let all = Tree::Hall(Items::from_slice(rt.alloc(), &[0, 1, 2])?);
+    checks(&rt, &problem, &all, wrong(0, TreeWhy::HallLoad));
+    Ok(())
+}
+
+#[test]
+fn a_branch_over_crowded_needs(rt: HostRuntime) -> Result<(), Fail> {
+    let problem = too_small(&rt, rt.alloc())?;
+    let tree = chain(rt.alloc(), chain(rt.alloc(), Tree::Over)?)?;
+    checks(&rt, &problem, &tree, wrong(0, TreeWhy::Idle));
+    Ok(())
+}
+
+#[test]
+fn all_leaves_over(rt: HostRuntime) -> Result<(), Fail> {
+    let problem = too_coarse(&rt, rt.alloc())?;
+    let tree = all_over(rt.alloc())?;
+    checks(&rt, &problem, &tree, Ok(no_bound(5)));
     Ok(())
 }
 
 // The two needs on the cheap site cost 13, and on the dear one 12, which first fit does not find.
 #[test]
-fn outcomes(rt: HostRuntime) -> Result<(), Fail> {
-    let alloc = rt.alloc();
-    let priced = two_prices(&rt, alloc, 0)?;
-    let cheap = placed(alloc, &[0, 0], two_duals(alloc, 4, 0)?)?;
-    let found = Ok(Verdict {
-        bound: Some(12),
-        branches: 1,
-        full: false,
-    });
-    assert_eq!(rt; judged(&rt, &priced, 1, &cheap), found);
-    assert_eq!(rt; judged(&rt, &priced, 2, &cheap), Err(OutcomeFault::Bound));
-    assert_eq!(rt;
-        judged(&rt, &priced, 0, &cheap),
-        Err(OutcomeFault::Branches)
-    );
-    let short = placed(alloc, &[1], two_duals(alloc, 4, 0)?)?;
-    assert_eq!(rt;
-        judged(&rt, &priced, 1, &short),
-        Err(OutcomeFault::Placement)
-    );
-    let dear = placed(alloc, &[0, 1], two_duals(alloc, 4, 0)?)?;
-    assert_eq!(rt; judged(&rt, &priced, 1, &dear), Err(OutcomeFault::Bound));
-    let loose = placed(alloc, &[0, 0], two_duals(alloc, 0, 0)?)?;
-    let equal = two_prices(&rt, alloc, 1)?;
-    assert_eq!(rt; judged(&rt, &equal, 1, &loose), Err(OutcomeFault::Bound));
-    let full = fork(alloc, Tree::Full, Tree::Full)?;
-    let late = fork(alloc, dual(alloc, &[4], &[0, 0])?, full)?;
-    let late = placed(alloc, &[0, 0], late)?;
-    assert_eq!(rt; judged(&rt, &priced, 2, &late), Err(OutcomeFault::Bound));
-    let full = fork(alloc, Tree::Full, Tree::Full)?;
-    let dull = fork(alloc, full, dual(alloc, &[0], &[0, 0])?)?;
-    let dull = placed(alloc, &[0, 0], dull)?;
-    assert_eq!(rt; judged(&rt, &priced, 2, &dull), Err(OutcomeFault::Bound));
-    let steep = Outcome::Spent {
-        tree: dual(alloc, &[13, 0], &[0, 0])?,
-    };
-    let fault = TreeFault {
-        node: 0,
-        why: TreeWhy::DualSum { switch: 0 },
-    };
-    assert_eq!(rt;
-        judged(&rt, &priced, 1, &steep),
-        Err(OutcomeFault::Tree(fault))
+fn a_placement_of_cost_13(rt: HostRuntime) -> Result<(), Fail> {
+    let table = [
+        (1, Ok(bound(12, 1))),
+        (2, Err(OutcomeFault::Bound)),
+        (0, Err(OutcomeFault::Branches)),
+    ];
+    for (nodes, expected) in table {
+        let tree = two_duals(rt.alloc(), 4, 0)?;
+        judges_placed(&rt, rt.alloc(), &[0, 0], tree, nodes, expected)?;
+    }
+    Ok(())
+}
+
+#[test]
+fn a_short_and_a_dear_placement(rt: HostRuntime) -> Result<(), Fail> {
+    let tree = two_duals(rt.alloc(), 4, 0)?;
+    judges_placed(&rt, rt.alloc(), &[1], tree, 1, Err(OutcomeFault::Placement))?;
+    let tree = two_duals(rt.alloc(), 4, 0)?;
+    judges_placed(&rt, rt.alloc(), &[0, 1], tree, 1, Err(OutcomeFault::Bound))?;
+    Ok(())
+}
+
+#[test]
+fn a_dual_below_its_floor(rt: HostRuntime) -> Result<(), Fail> {
+    let problem = two_prices(&rt, rt.alloc(), 1)?;
+    let sites = Items::from_slice(rt.alloc(), &[0, 0])?;
+    let placement = Placement { sites };
+    let tree = two_duals(rt.alloc(), 0, 0)?;
+    let outcome = Outcome::Placed { placement, tree };
+    judges(&rt, &problem, 1, &outcome, Err(OutcomeFault::Bound));
+    Ok(())
+}
+
+#[test]
+fn a_better_completion(rt: HostRuntime) -> Result<(), Fail> {
+    let leaf = dual(rt.alloc(), &[4], &[0, 0])?;
+    let full = fork(rt.alloc(), Tree::Full, Tree::Full)?;
+    let tree = fork(rt.alloc(), leaf, full)?;
+    judges_placed(&rt, rt.alloc(), &[0, 0], tree, 2, Err(OutcomeFault::Bound))?;
+    Ok(())
+}
+
+#[test]
+fn a_branch_at_first_fits_cost(rt: HostRuntime) -> Result<(), Fail> {
+    let full = fork(rt.alloc(), Tree::Full, Tree::Full)?;
+    let leaf = dual(rt.alloc(), &[0], &[0, 0])?;
+    let tree = fork(rt.alloc(), full, leaf)?;
+    judges_placed(&rt, rt.alloc(), &[0, 0], tree, 2, Err(OutcomeFault::Bound))?;
+    Ok(())
+}
+
+#[test]
+fn a_wrong_tree(rt: HostRuntime) -> Result<(), Fail> {
+    let tree = dual(rt.alloc(), &[13, 0], &[0, 0])?;
+    let why = TreeWhy::DualSum { switch: 0 };
+    let fault = Err(OutcomeFault::Tree(TreeFault { node: 0, why }));
+    judges_placed(&rt, rt.alloc(), &[0, 0], tree, 1, fault)?;
+    Ok(())
+}
+
+#[test]
+fn none_fits(rt: HostRuntime) -> Result<(), Fail> {
+    let problem = too_small(&rt, rt.alloc())?;
+    let tree = Tree::Hall(Items::from_slice(rt.alloc(), &[0, 1])?);
+    judges(
+        &rt,
+        &problem,
+        1024,
+        &Outcome::Infeasible { tree },
+        Ok(no_bound(0)),
     );
     Ok(())
 }
 
 #[test]
-fn outcomes_without_a_placement(rt: HostRuntime) -> Result<(), Fail> {
-    let alloc = rt.alloc();
-    let small = too_small(&rt, alloc)?;
-    let coarse = too_coarse(&rt, alloc)?;
-    let none = |branches| {
-        Ok(Verdict {
-            bound: None,
-            branches,
-            full: false,
-        })
-    };
-    let both = Tree::Hall(Items::from_slice(alloc, &[0, 1])?);
-    let hall = Outcome::Infeasible { tree: both };
-    assert_eq!(rt; judged(&rt, &small, 1024, &hall), none(0));
-    let over = Outcome::Infeasible {
-        tree: all_over(alloc)?,
-    };
-    assert_eq!(rt; judged(&rt, &coarse, 1024, &over), none(5));
-    assert_eq!(rt; judged(&rt, &coarse, 4, &over), Err(OutcomeFault::Branches));
-    let left = fork(alloc, Tree::Over, dual(alloc, &[0], &[0, 0])?)?;
-    let spent = Outcome::Spent {
-        tree: fork(alloc, left, dual(alloc, &[0, 0], &[0, 0])?)?,
-    };
-    let open = Ok(Verdict {
-        bound: Some(0),
-        branches: 2,
-        full: false,
-    });
-    assert_eq!(rt; judged(&rt, &coarse, 2, &spent), open);
-    assert_eq!(rt; judged(&rt, &coarse, 3, &spent), Err(OutcomeFault::Bound));
+fn none_fits_by_five_branches(rt: HostRuntime) -> Result<(), Fail> {
+    let problem = too_coarse(&rt, rt.alloc())?;
+    let tree = all_over(rt.alloc())?;
+    let outcome = Outcome::Infeasible { tree };
+    judges(&rt, &problem, 5, &outcome, Ok(no_bound(5)));
+    judges(&rt, &problem, 4, &outcome, Err(OutcomeFault::Branches));
+    Ok(())
+}
+
+#[test]
+fn two_branches_spent(rt: HostRuntime) -> Result<(), Fail> {
+    let problem = too_coarse(&rt, rt.alloc())?;
+    let leaf = dual(rt.alloc(), &[0], &[0, 0])?;
+    let left = fork(rt.alloc(), Tree::Over, leaf)?;
+    let right = dual(rt.alloc(), &[0, 0], &[0, 0])?;
+    let tree = fork(rt.alloc(), left, right)?;
+    let outcome = Outcome::Spent { tree };
+    judges(&rt, &problem, 2, &outcome, Ok(bound(0, 2)));
+    judges(&rt, &problem, 3, &outcome, Err(OutcomeFault::Bound));
     Ok(())
 }
