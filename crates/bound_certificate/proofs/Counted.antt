@@ -1,8 +1,8 @@
 -- How many nodes a tree has.
-use Rattle.std.proofs.Common.{◌≡◌, ℕ, ◌+◌, ◌*◌, ◌≤◌, true, ◌&&◌, cond, List, [], ◌∷◌, length, map, refl, ◌∙◌, ap, arith, length-append}
+use Rattle.std.proofs.Common.{◌≡◌, ℕ, ◌+◌, ◌*◌, ◌≤◌, ◌<◌, true, ◌&&◌, cond, List, [], ◌∷◌, length, map, refl, ◌∙◌, ap, arith, length-append}
 use Rattle.std.specs.Prelude.{nat_le, nat_lt, sum}
 use Rattle.std.specs.List.{AllByRecursion, list_all}
-use Rattle.std.proofs.lemmas.Bool.{and_parts, leb-true}
+use Rattle.std.proofs.lemmas.Bool.{and_parts, leb-true, ltb-true}
 use Rattle.std.proofs.lemmas.List.Sums.{sum_by-cons}
 use Rattle.bound_certificate.specs.Problem.{Problem}
 use Rattle.bound_certificate.specs.Node.{Part, BranchPart, OverPart, HallPart, DualPart, FullPart}
@@ -81,3 +81,16 @@ nodes-le tree d formed = bounded tree d formed
 pub formed_root : (tree : Tree) → is_formed tree ≡ true → is_formed_at tree 0 ≡ true
 unfolding is_formed
 formed_root tree formed = (and_parts (is_formed_at tree 0) (nat_le (branches tree) 4096) formed).0
+
+-- a formed part with children stands at a depth below 64
+pub fan_depth : (d : ℕ) (part : Part) → is_formed_part d part ≡ true → 0 < fan part → d + 1 ≤ 64
+unfolding fan
+fan_depth d (BranchPart children) formed some =
+    let outer = and_parts (nat_lt d 64 && nat_le 1 children) (nat_le children 8) formed in
+    let inner = and_parts (nat_lt d 64) (nat_le 1 children) outer.0 in
+    let lower : d < 64 = ltb-true d 64 inner.0 in
+    omega arith
+fan_depth d OverPart formed some = absurd (omega arith)
+fan_depth d (HallPart names) formed some = absurd (omega arith)
+fan_depth d (DualPart lambda mu) formed some = absurd (omega arith)
+fan_depth d FullPart formed some = absurd (omega arith)

@@ -1,9 +1,9 @@
 -- What a right outcome shows.
-use Rattle.std.proofs.Common.{◌≡◌, ℕ, ◌+◌, ◌-◌, ◌≤◌, ◌<◌, Bool, true, false, cond, ◌==◌, ◌&&◌, ◌||◌, ◌⊎◌, inl, inr, List, [], ◌∷◌, length, map, Option, None, Some, Result, Ok, Err, ℤ, pos, ◌≤ℤ◌, refl, sym, ◌∙◌, ap, subst, arith}
+use Rattle.std.proofs.Common.{◌≡◌, ℕ, ◌-◌, ◌≤◌, ◌<◌, Bool, true, false, cond, ◌==◌, ◌&&◌, ◌||◌, ◌⊎◌, inl, inr, List, [], map, Option, None, Some, Result, Ok, Err, ℤ, pos, ◌≤ℤ◌, refl, sym, ◌∙◌, ap, subst, arith}
 use Rattle.std.specs.Prelude.{not, is_some, is_none, IfOk, IsTrue}
 use Rattle.std.specs.Ordering.{int_eq}
 use Rattle.std.specs.Option.{option_map}
-use Rattle.std.proofs.lemmas.Bool.{and_parts, eqb-true, cases_Bool}
+use Rattle.std.proofs.lemmas.Bool.{and_parts, eqb-true}
 use Rattle.std.proofs.lemmas.Int.{ints}
 use Rattle.bound_certificate.specs.Limits.{IsWithin}
 use Rattle.bound_certificate.specs.Problem.{Problem, need_count}
@@ -13,9 +13,8 @@ use Rattle.bound_certificate.specs.Tree.{Visit, part_of, children_of, below, vis
 use Rattle.bound_certificate.specs.Bound.{IsBelow}
 use Rattle.bound_certificate.specs.Outcome.{completion, is_no_better, is_beaten, is_tight, is_explored, are_explored, first_fit_cost, is_bound, is_best, is_spent, tree_of, judged}
 use Rattle.bound_certificate.specs.Whole.{whole}
-use Rattle.bound_certificate.specs.Meaning.{IsLeastCost, NoneFits, IsPlaced, IsLeft, Shows}
+use Rattle.bound_certificate.specs.Meaning.{IsPlaced, IsLeft, Shows}
 use Rattle.bound_certificate.specs.declared.tree.Tree.{Tree}
-use Rattle.bound_certificate.specs.declared.placement.Placement.{Placement}
 use Rattle.bound_certificate.specs.declared.verdict.Verdict.{Verdict}
 use Rattle.bound_certificate.specs.declared.outcome.Outcome.{Outcome}
 use Rattle.bound_certificate.specs.declared.outcome.Outcome.TheVariants.{Placed, Infeasible, Spent}

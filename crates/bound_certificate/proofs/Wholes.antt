@@ -1,18 +1,16 @@
 -- A tree without a fault has no more Branch nodes than the whole tree.
-use Rattle.std.proofs.Common.{◌≡◌, ℕ, zero, suc, ◌+◌, ◌-◌, ◌*◌, ◌≤◌, ◌<◌, Bool, true, false, cond, List, [], ◌∷◌, ◌++◌, length, map, Option, None, Some, refl, sym, ◌∙◌, ap, subst, arith, mul_assoc, mul_comm}
+use Rattle.std.proofs.Common.{◌≡◌, ℕ, zero, suc, ◌+◌, ◌*◌, ◌≤◌, cond, List, [], ◌∷◌, length, map, None, refl, sym, ◌∙◌, ap, subst, arith, mul_assoc, mul_comm}
 use Rattle.std.specs.List.{AllByRecursion}
-use Rattle.std.proofs.lemmas.Nat.{mul-le}
 use Rattle.std.proofs.lemmas.List.{nil_from_length}
 use Rattle.bound_certificate.specs.Sums.{sum_below}
 use Rattle.bound_certificate.specs.Whole.{product_below, via_size, whole}
-use Rattle.bound_certificate.specs.Problem.{Problem, need_count, via}
-use Rattle.bound_certificate.specs.Placement.{AreChoices}
+use Rattle.bound_certificate.specs.Problem.{Problem, need_count}
 use Rattle.bound_certificate.specs.Node.{Part, BranchPart, OverPart, HallPart, DualPart, FullPart, node_fault}
-use Rattle.bound_certificate.specs.Tree.{Visit, part_of, children_of, child_choices, below, visits, first_fault, is_branch, branches_of}
+use Rattle.bound_certificate.specs.Tree.{part_of, children_of, child_choices, below, visits, first_fault, is_branch, branches_of}
 use Rattle.bound_certificate.specs.declared.tree.Tree.{Tree}
 use Rattle.bound_certificate.proofs.Trees.{visits-out, fan, fan-part_of, tree_induction}
 use Rattle.bound_certificate.proofs.Verdicts.{first_fault-append, branches_of-append}
-use Rattle.bound_certificate.proofs.Nodes.{IsBranching, branch_right, none_first, node_is_right, length-child_choices}
+use Rattle.bound_certificate.proofs.Nodes.{branch_right, none_first, node_is_right, length-child_choices}
 use Rattle.bound_certificate.proofs.Sums.{sum_below-same, sum_below-times, sum_below-first}
 
 -- the same count, depth by depth from d down

@@ -5,8 +5,6 @@ use Rattle.bound_certificate.specs.Placement.{cost, fits, first_fit}
 use Rattle.bound_certificate.specs.Bound.{IsBelow}
 use Rattle.bound_certificate.specs.Outcome.{is_no_better, first_fit_cost}
 use Rattle.bound_certificate.specs.Whole.{whole}
-use Rattle.bound_certificate.specs.declared.placement.Placement.{Placement}
-use Rattle.bound_certificate.specs.declared.tree.Tree.{Tree}
 use Rattle.bound_certificate.specs.declared.verdict.Verdict.{Verdict}
 use Rattle.bound_certificate.specs.declared.outcome.Outcome.{Outcome}
 use Rattle.bound_certificate.specs.declared.outcome.Outcome.TheVariants.{Placed, Infeasible, Spent}

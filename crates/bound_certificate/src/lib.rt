@@ -1,10 +1,19 @@
 //! Certificates of a least cost: a placement problem, and trees that prove a bound below every placement's cost.
 //!
-//! - `site`, `need`, `problem`: `Site`, `Need` and `Problem`, what is placed and where it can be
-//! - `within`: the limits of a problem, as a test
+//! - `site`, `need`, `problem`, `within`: `Site`, `Need` and `Problem`, what is placed and where it can be, and the
+//!   limits of a problem as a test
 //! - `placement`: `Placement`, a site for each need; whether it fits, its cost, and the first fit
 //! - `numbers`: a list of up to 64 numbers that takes no memory; `choices`, `completion`: the sites chosen for the
 //!   first needs, what they carry and cost, and how the first fit goes on from them
+//! - `tree`, `formed`: `Tree`, and its limits as a test
+//! - `hall`, `dual`, `node`: the test of one node; `tally`, `checker`: `check`, of a whole tree, which gives a
+//!   `verdict`
+//! - `outcome`, `floors`, `explored`, `judge`: what a search found, and `check_outcome`, which judges it
+//!
+//! `specs/Placement.antt` says cost and fitting as sums over needs and sites, `specs/Node.antt` when a node is
+//! wrong, `specs/Tree.antt` a tree as the list of its nodes in preorder, and `specs/Outcome.antt` which outcome is
+//! right. `check` carries weak duality: no placement that fits costs less than the bound. Only `first_fit` takes
+//! memory.
 #![tactic(auto)]
 
 mod checker;
@@ -13,6 +22,7 @@ mod completion;
 mod dual;
 mod explored;
 mod floors;
+mod formed;
 mod hall;
 mod judge;
 mod need;
@@ -28,6 +38,7 @@ mod verdict;
 mod within;
 
 pub use checker::check;
+pub use formed::is_formed;
 pub use judge::check_outcome;
 pub use need::Need;
 pub use outcome::{Outcome, OutcomeFault};
@@ -37,3 +48,6 @@ pub use site::Site;
 pub use tree::Tree;
 pub use verdict::{TreeFault, TreeWhy, Verdict};
 pub use within::is_within;
+
+#[cfg(test)]
+mod tests;

@@ -25,7 +25,8 @@ pub struct Placement {
 /// Takes no memory.
 #[tactic(auto, unfolding(crate::specs::Placement::fits))]
 pub fn fits(problem: &Problem, placement: &Placement) -> bool
-    ensures { result ≡ fits problem.now placement.now.sites }
+    ensures value { result ≡ fits problem.now placement.now.sites }
+    ensures placed { OnTrue result (IsTrue (is_placement problem.now placement.now.sites)) }
 {
     let choices = placement.sites.as_slice();
     is_placement(problem, choices) && is_within_capacities(problem, choices)
