@@ -1,4 +1,6 @@
 pub mod Fields
 pub mod Hexadecimal
+pub mod KeyOrder
+pub mod KeySets
 pub mod OneText
 pub mod Parts

@@ -1,5 +1,5 @@
 -- The text that is due, and the answers behind a topology.
-use Rattle.std.proofs.Common.{◌≡◌, ◌≤◌, ◌+◌, ℕ, List, [], ◌++◌, length, Option, Some, None, Ok, Err, IfSome, IsTrue, refl, sym, ◌∙◌, ap, subst, arith, inl, inr, append-nil, length-append}
+use Rattle.std.proofs.Common.{◌≡◌, ◌≤◌, ◌+◌, ℕ, List, [], ◌++◌, length, Option, Some, None, Ok, Err, IfSome, refl, sym, ◌∙◌, ap, subst, arith, inl, inr, append-nil, length-append}
 use Rattle.std.proofs.lemmas.Bool.Decides.{nat_tests}
 use Rattle.mon_io.specs.Faults.{Rose}
 use Rattle.mon_io.specs.Inputs.{InputState, IsLeft, IsOver, Took}
@@ -9,8 +9,8 @@ use Rattle.pcap_reader.specs.declared.header.Header.{Header}
 use Rattle.topology.specs.Topology.{Topo, answer, file_fault, most_bytes, root_of, topo_of, topology_of}
 use Rattle.topology.specs.declared.fault.TopologyFault.TheVariants as fault
 use Rattle.mon_command.specs.Asked.{Central}
-use Rattle.mon_command.specs.Call.{Answers, Call, HasTopology, IsSuffix, Keeps, call_of}
-use Rattle.mon_command.specs.Central.{IsReport, IsTopology, central_text}
+use Rattle.mon_command.specs.Call.{Answers, IsSuffix, call_of}
+use Rattle.mon_command.specs.Central.{IsReport, central_text}
 use Rattle.mon_command.specs.Report.{Reports}
 use Rattle.mon_command.specs.Scan.{HasTraceFault}
 use Rattle.mon_command.specs.Sketched.{Divides, IsDivided, IsPart}

@@ -1,20 +1,15 @@
 -- A call without a fault does its work, and a fault of what is told is told, unless memory runs out.
-use Rattle.std.proofs.Common.{◌≡◌, ◌≢◌, ◌<◌, ◌≤◌, ◌+◌, max, ℕ, List, [], ◌∷◌, ◌++◌, length, take, Option, Some, None, Result, Ok, Err, IfSome, refl, sym, ◌∙◌, subst, arith, inl, inr, ap, length-append}
+use Rattle.std.proofs.Common.{◌≡◌, ℕ, List, Option, Some, None, Result, Ok, Err, IfSome, refl, sym, ◌∙◌, subst, inl, inr, ap}
 use Rattle.mon_words.specs.declared.usage_fault.UsageFault.{UsageFault}
-use Rattle.pcap_reader.specs.Header.{header_of}
-use Rattle.pcap_reader.specs.Trace.{Record, Begins, BreaksOff, IsTrace, Broken}
-use Rattle.pcap_reader.specs.declared.fault.PcapFault.{PcapFault}
-use Rattle.pcap_reader.specs.declared.header.Header.{Header}
-use Rattle.pcap_reader.proofs.Traces.{not_both, one_fault, one_front}
+use Rattle.pcap_reader.specs.Trace.{Record, IsTrace, Broken}
+use Rattle.pcap_reader.proofs.Traces.{not_both, one_fault}
 use Rattle.topology.specs.Topology.{Topo, topology_of}
 use Rattle.topology.specs.declared.fault.TopologyFault.{TopologyFault}
 use Rattle.mon_command.specs.Asked.{Asked, Total, Central}
 use Rattle.mon_command.specs.Call.{Call, HasTopology, IsDue, IsRefused, IsUnfitFor, Answers, Outcome}
-use Rattle.mon_command.specs.Central.{IsTopology}
 use Rattle.mon_command.specs.Complete.{UnlessMemory}
-use Rattle.mon_command.specs.Routed.{epoch_of, number_of_epochs}
-use Rattle.mon_command.specs.Scan.{BreaksWithin, HasLateRecord, HasTraceFault}
-use Rattle.mon_command.specs.Told.{HasBytes, HasDividedTrace, HasTold, HasToldTopology, HasToldUnfit, IsAccepted, IsSmooth}
+use Rattle.mon_command.specs.Scan.{HasTraceFault}
+use Rattle.mon_command.specs.Told.{HasBytes, HasDividedTrace, HasTold, HasToldUnfit, IsAccepted, IsSmooth}
 use Rattle.mon_command.specs.declared.status.Status.{Status}
 use Rattle.mon_command.specs.declared.status.Status.TheVariants.{Done, Usage, ReadFault, Topology, Trace, SinkFault, Memory}
 use Rattle.mon_command.specs.declared.status.TraceFault.{TraceFault}

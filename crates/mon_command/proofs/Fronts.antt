@@ -1,14 +1,13 @@
 -- Of two readings of the same bytes, how many epochs the lesser one has.
-use Rattle.std.proofs.Common.{◌≡◌, zero, suc, ℕ, ◌<◌, ◌≤◌, ◌+◌, max, List, [], ◌∷◌, ◌++◌, length, take, map, fold, get_or, Option, Ok, Err, refl, sym, ◌∙◌, ap, subst, arith, inl, inr, length-append}
+use Rattle.std.proofs.Common.{◌≡◌, zero, suc, ℕ, ◌<◌, ◌≤◌, ◌+◌, max, List, [], ◌∷◌, ◌++◌, length, take, map, fold, get_or, Option, refl, sym, ◌∙◌, ap, arith, inl, inr, length-append}
 use Rattle.std.proofs.lemmas.Bool.{cases_lt}
 use Rattle.std.proofs.Math.Seq.{take-length}
 use Rattle.std.proofs.lemmas.List.{get_or_push, take-append-le}
-use Rattle.pcap_reader.specs.Header.{header_of}
-use Rattle.pcap_reader.specs.Trace.{Record, Begins, BreaksOff, Broken, IsTrace}
+use Rattle.pcap_reader.specs.Trace.{Record, Begins, Broken, IsTrace}
 use Rattle.pcap_reader.specs.declared.fault.PcapFault.{PcapFault}
 use Rattle.pcap_reader.specs.declared.header.Header.{Header}
 use Rattle.pcap_reader.proofs.Traces.{longest_broken, longest_trace, not_both, one_fault, one_front}
-use Rattle.mon_command.specs.Routed.{epoch_of, first_of, number_of_epochs}
+use Rattle.mon_command.specs.Routed.{epoch_of, number_of_epochs}
 use Rattle.mon_command.specs.Scan.{BreaksWithin, HasLateRecord}
 use Rattle.mon_command.proofs.Splitting.{number_of_epochs-push}
 

@@ -6,7 +6,7 @@ use Rattle.std.specs.Cmp.Lexicographic.{slice_cmp}
 use Rattle.std.specs.Ordering.{nat_cmp}
 use Rattle.count_sketch.specs.Counters.{Item}
 use Rattle.sketch_levels.specs.Items.{distinct, distinct_keys, live_items, with_key}
-use Rattle.sketch_levels.proofs.Distinct.{by_order}
+use Rattle.flow_keys.proofs.KeyOrder.{by_order}
 use Rattle.mon_command.specs.Asked.{is_setting}
 use Rattle.mon_command.specs.declared.setting.Setting.{Setting}
 use Rattle.mon_command.proofs.Packets.{length-live_items-le}

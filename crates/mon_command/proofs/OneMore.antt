@@ -1,5 +1,5 @@
 -- What was sketched, one record on.
-use Rattle.std.proofs.Common.{◌≡◌, ℕ, ◌+◌, ◌<◌, ◌≤◌, max, List, [], ◌∷◌, ◌++◌, length, cond, Bool, true, false, is_some, Option, Some, None, unwrap_or, refl, sym, ◌∙◌, ap, subst, arith, append-nil, length-append, Vec, Global}
+use Rattle.std.proofs.Common.{◌≡◌, ℕ, ◌+◌, ◌≤◌, max, List, [], ◌∷◌, ◌++◌, length, cond, true, false, is_some, Option, Some, None, unwrap_or, refl, sym, ◌∙◌, ap, subst, arith, append-nil, length-append, Vec, Global}
 use Rattle.std.specs.Option.{option_to_list}
 use Rattle.flow_keys.specs.Frame.{frame_key}
 use Rattle.pcap_reader.specs.declared.header.Header.{Header}

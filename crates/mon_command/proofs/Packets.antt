@@ -1,16 +1,13 @@
 -- What has been sketched, packet by packet.
 use Rattle.std.proofs.Common.{◌≡◌, ℕ, ◌+◌, ◌<◌, ◌≤◌, ◌==◌, Bool, true, false, cond, not, ◌||◌, ◌&&◌, is_some, Vec, replicate, List, [], ◌∷◌, ◌++◌, length, slice_index, slice_index_or, map, Option, Some, None, IsTrue, refl, sym, ◌∙◌, ap, subst, arith, length-append}
-use Rattle.std.specs.List.{cons_option, list_any, range_with_len}
-use Rattle.std.specs.Option.{option_map}
+use Rattle.std.specs.List.{list_any, range_with_len}
 use Rattle.std.proofs.lemmas.List.{get_or_default, with_items_is, get_or-replicate, length-replicate}
 use Rattle.std.specs.Vec.{with_items}
 use Rattle.std.specs.declared.alloc.Global.{Global}
 use Rattle.std.proofs.lemmas.Bool.Decides.{nat_tests}
-use Rattle.std.proofs.lemmas.List.Elements.{filter_map-append}
 use Rattle.std.proofs.lemmas.List.Folds.{list_any-append}
 use Rattle.std.proofs.lemmas.List.FromFn.{map-range_with_len_more}
 use Rattle.std.proofs.lemmas.List.Sums.{sum_by-append, length-filter, count_by-le-length}
-use Rattle.flow_keys.specs.Frame.{frame_key}
 use Rattle.hash_family.specs.Hash.{is_live}
 use Rattle.count_sketch.specs.Counters.{Item, counters_of}
 use Rattle.sketch_levels.specs.Items.{live_items, weight_of, distinct_keys}
@@ -19,8 +16,6 @@ use Rattle.sketch_levels.specs.Noted.{Noted, HoldsNotes, notes_of}
 use Rattle.hash_family.specs.Setting as sketch
 use Rattle.sketch_levels.specs.Kept as levels
 use Rattle.sketch_levels.proofs.Live.{live_items-live, live_items-dead, live_items-none}
-use Rattle.pcap_reader.specs.Trace.{Record}
-use Rattle.pcap_reader.specs.declared.header.Header.{Header}
 use Rattle.mon_command.specs.Central.{levels_setting, kept_keys, nonzero, level_count, drops}
 use Rattle.mon_command.specs.Routed.{item_of}
 use Rattle.mon_command.specs.Live.{CountsLive, AreLive}

@@ -1,5 +1,5 @@
 -- A trace while it is sketched.
-use Rattle.std.proofs.Common.{◌≡◌, ℕ, ◌+◌, ◌<◌, List, ◌∷◌, [], ◌++◌, length, Option, Some, Ok, sym, ◌∙◌, ap, subst, arith, length-append}
+use Rattle.std.proofs.Common.{◌≡◌, ℕ, ◌<◌, List, ◌∷◌, [], length, Option, Some, Ok, ◌∙◌, ap, arith, length-append}
 use Rattle.flow_keys.specs.Frame.{frame_key}
 use Rattle.flow_keys.specs.declared.link.Link.{Link}
 use Rattle.pcap_reader.specs.Trace.{Record}

@@ -1,7 +1,7 @@
 -- A trace that is read to its end, or to a stop.
-use Rattle.std.proofs.Common.{◌≡◌, ◌<◌, ◌≤◌, ℕ, List, [], ◌∷◌, ◌++◌, length, Option, Some, None, Ok, Err, IfSome, sym, ◌∙◌, ap, subst, append-nil, arith, inl, inr}
-use Rattle.mon_io.specs.Inputs.{IsLeft, IsOver}
-use Rattle.pcap_reader.specs.Trace.{Record, Begins, BreaksOff, Broken, IsTrace}
+use Rattle.std.proofs.Common.{◌≡◌, ◌<◌, ◌≤◌, ℕ, List, [], ◌∷◌, ◌++◌, length, Option, Some, None, Err, IfSome, sym, ◌∙◌, ap, subst, append-nil, arith, inl, inr}
+use Rattle.mon_io.specs.Inputs.{IsOver}
+use Rattle.pcap_reader.specs.Trace.{Record, Begins, Broken, IsTrace}
 use Rattle.pcap_reader.specs.Reader.{SoFar, Advanced, Begun}
 use Rattle.pcap_reader.specs.declared.fault.PcapFault.{PcapFault}
 use Rattle.pcap_reader.specs.declared.fault.PcapStop.{PcapStop}

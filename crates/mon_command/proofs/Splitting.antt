@@ -1,5 +1,5 @@
 -- How records are divided into epochs, one record on.
-use Rattle.std.proofs.Common.{◌≡◌, ◌≢◌, ℕ, ◌+◌, ◌<◌, ◌≤◌, ◌==◌, ◌-◌, max, List, [], ◌∷◌, ◌++◌, length, map, fold, filter, filter_map, set, Bool, true, false, Option, Some, None, unwrap_or, refl, sym, ◌∙◌, ap, subst, arith, inl, inr, append-nil, length-append, length-set, get_or-set_other, get_or-set_same}
+use Rattle.std.proofs.Common.{◌≡◌, ◌≢◌, ℕ, ◌+◌, ◌<◌, ◌≤◌, ◌==◌, ◌-◌, max, List, [], ◌∷◌, ◌++◌, length, map, fold, filter, filter_map, set, true, false, Option, Some, None, unwrap_or, refl, sym, ◌∙◌, ap, subst, arith, inl, inr, append-nil, length-append, length-set, get_or-set_other, get_or-set_same}
 use Rattle.std.specs.List.{cons_option, slice_index_or}
 use Rattle.std.specs.Prelude.{if◌then◌else◌}
 use Rattle.std.specs.Option.{option_to_list}
@@ -15,7 +15,7 @@ use Rattle.pcap_reader.specs.declared.header.Header.{Header}
 use Rattle.pcap_reader.specs.Trace.{Record}
 use Rattle.topology.specs.Topology.{Topo}
 use Rattle.mon_command.specs.Central.{block_of, change_of, epoch_lines, epochs_lines}
-use Rattle.mon_command.specs.Routed.{Routed, epoch_at, epoch_of, first_of, item_of, items_in, number_of_epochs, routed_of, routed_one, seconds_of}
+use Rattle.mon_command.specs.Routed.{Routed, epoch_of, first_of, item_of, items_in, number_of_epochs, routed_of, routed_one, seconds_of}
 use Rattle.mon_command.specs.Sketched.{Sketches, Splits}
 use Rattle.mon_command.specs.declared.setting.Setting.{Setting}
 use Rattle.mon_command.specs.declared.sketching.Sketched.{Sketched}

@@ -6,7 +6,7 @@ use Rattle.mon_io.specs.Sink.{SinkState, Grew, GrewByPart}
 use Rattle.mon_words.specs.declared.usage_fault.UsageFault.{UsageFault}
 use Rattle.topology.specs.Topology.{Topo, topology_of}
 use Rattle.topology.specs.declared.fault.TopologyFault.{TopologyFault}
-use Rattle.mon_command.specs.Asked.{Asked, Total, Central, trace_of}
+use Rattle.mon_command.specs.Asked.{Asked, Total, Central}
 use Rattle.mon_command.specs.Central.{IsCentral, IsTopology}
 use Rattle.mon_command.specs.Complete.{UnlessMemory}
 use Rattle.mon_command.specs.Scan.{IsBroken, HasTraceFault}

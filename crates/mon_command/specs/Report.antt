@@ -1,12 +1,9 @@
 -- What is written of a trace, and how a topology is read.
-use Rattle.std.specs.Prelude.{◌≡◌, ◌≢◌, ◌≤◌, ⊤, ℕ, List, length, Option, IfSome, Result, Ok, Err}
+use Rattle.std.specs.Prelude.{◌≡◌, ⊤, ℕ, List, Option, IfSome, Result, Ok, Err}
 use Rattle.mon_io.specs.Faults.{Rose}
 use Rattle.mon_io.specs.Inputs.{IsLeft, IsOver}
 use Rattle.mon_io.specs.Sink.{Grew, GrewByPart}
-use Rattle.pcap_reader.specs.declared.header.Header.{Header}
-use Rattle.pcap_reader.specs.Trace.{Record, IsTrace}
 use Rattle.topology.specs.Topology.{Topo, topology_of}
-use Rattle.topology.specs.declared.fault.TopologyFault.TheVariants as fault
 use Rattle.mon_command.specs.Central.{IsReport}
 use Rattle.mon_command.specs.Call.{Call, IsSilent}
 use Rattle.mon_command.specs.Scan.{HasTraceFault}

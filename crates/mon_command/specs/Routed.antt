@@ -1,5 +1,5 @@
 -- The epochs of a trace, and its routed packets.
-use Rattle.std.specs.Prelude.{ℕ, ◌+◌, ◌-◌, ◌/◌, ◌==◌, max, Bool, true, List, [], ◌∷◌, filter, filter_map, map, fold, Option, Some, None, is_some, unwrap_or, option_map, if◌then◌else◌}
+use Rattle.std.specs.Prelude.{ℕ, ◌+◌, ◌-◌, ◌/◌, ◌==◌, max, Bool, true, List, [], ◌∷◌, filter, filter_map, map, fold, Option, Some, None, is_some, unwrap_or, if◌then◌else◌}
 use Rattle.flow_keys.specs.Frame.{frame_key}
 use Rattle.count_sketch.specs.Counters.{Item}
 use Rattle.pcap_reader.specs.declared.header.Header.{Header}

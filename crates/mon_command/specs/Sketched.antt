@@ -16,7 +16,7 @@ use Rattle.topology.specs.Topology.{Topo}
 use Rattle.mon_command.specs.Asked.{is_setting}
 use Rattle.mon_command.specs.Central.{central_view, levels_setting, kept_keys}
 use Rattle.mon_command.specs.Live.{AreLive}
-use Rattle.mon_command.specs.Routed.{Routed, epoch_of, first_of, item_of, items_in, number_of_epochs, routed_of, seconds_of}
+use Rattle.mon_command.specs.Routed.{Routed, epoch_of, first_of, items_in, number_of_epochs, routed_of, seconds_of}
 use Rattle.mon_command.specs.Total.{keyed_in}
 use Rattle.mon_command.specs.declared.epochs.Epochs.{Epochs}
 use Rattle.mon_command.specs.declared.setting.Setting.{Setting}

@@ -2,8 +2,6 @@
 use Rattle.std.proofs.Common.{◌≡◌, ℕ, ℤ, ◌≤◌, List, [], ◌∷◌, ◌++◌, length, map, refl, sym, ◌∙◌, ap, arith}
 use Rattle.std.specs.List.Sorted.{IsStrictlySortedBy}
 use Rattle.std.specs.Cmp.Lexicographic.{slice_cmp}
-use Rattle.std.specs.declared.cmp.Ordering.{Ordering}
-use Rattle.std.specs.declared.cmp.Ordering.TheVariants.{Less, Equal, Greater}
 use Rattle.std.specs.Ordering.{nat_cmp}
 use Rattle.std.proofs.lemmas.Cmp.{nat_list_cmp_total, tied_back}
 use Rattle.std.proofs.lemmas.List.{map-append}
@@ -12,15 +10,9 @@ use Rattle.std.proofs.lemmas.Map.Lookups.{exact_bytes}
 use Rattle.count_sketch.specs.Counters.{Item}
 use Rattle.topk_heap.specs.Ranking.{IsAscending, with_score}
 use Rattle.topk_heap.specs.declared.entry.Entry.{Entry}
-use Rattle.topk_heap.proofs.Order.{greater_back, less_back}
+use Rattle.flow_keys.proofs.KeyOrder.{by_order, greater_back, less_back}
 use Rattle.topk_heap.proofs.Scores.{above_equal, above_greater, with_equal, with_first, with_lesser}
 use Rattle.sketch_levels.specs.Items.{distinct, distinct_keys, with_key}
-
--- one case for each answer of an order
-pub by_order : {G : Type 0} (o : Ordering) → (o ≡ Less → G) → (o ≡ Equal → G) → (o ≡ Greater → G) → G
-by_order Less f g h = f refl
-by_order Equal f g h = g refl
-by_order Greater f g h = h refl
 
 -- a list that ends with one key more
 pub distinct-push : (keys : List (List ℕ)) (key : List ℕ) → distinct (keys ++ key ∷ []) ≡ with_key (distinct keys) key

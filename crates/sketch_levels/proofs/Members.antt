@@ -1,58 +1,16 @@
 -- Which keys are among the distinct ones of a list.
-use Rattle.std.proofs.Common.{◌≡◌, ◌↔◌, ℕ, ◌||◌, ◌&&◌, Bool, true, false, inl, inr, List, [], ◌∷◌, map, refl, sym, ◌∙◌, ap}
-use Rattle.std.specs.List.{Any, Contains, filter, fold, list_any}
-use Rattle.std.specs.Cmp.Lexicographic.{slice_cmp}
-use Rattle.std.specs.Ordering.{eq_by_cmp, is_eq, nat_cmp}
+use Rattle.std.proofs.Common.{◌≡◌, ◌↔◌, ℕ, ◌||◌, ◌&&◌, Bool, true, inl, inr, List, [], ◌∷◌, map, refl, sym, ◌∙◌, ap}
+use Rattle.std.specs.List.{Any, Contains, filter, list_any}
+use Rattle.std.specs.Ordering.{is_eq}
 use Rattle.std.specs.Cmp.{eq_by_cmp_equiv}
 use Rattle.std.proofs.lemmas.Bool.{cases_Bool, and_from, and_parts}
 use Rattle.std.proofs.lemmas.Cmp.{nat_list_cmp_total, tied_itself}
 use Rattle.std.proofs.lemmas.List.Folds.{Any-from_list_any, list_any-from_Any}
-use Rattle.std.proofs.lemmas.Map.Lookups.{exact_bytes}
 use Rattle.std.proofs.lemmas.Map.Views.{Contains-from_any, list_any-from_Contains}
 use Rattle.hash_family.specs.Hash.{is_live}
-use Rattle.topk_heap.proofs.Order.{equal_from_is_eq}
-use Rattle.sketch_levels.specs.Items.{distinct, with_key}
+use Rattle.flow_keys.proofs.KeySets.{any-fold, same, same_is}
+use Rattle.sketch_levels.specs.Items.{distinct}
 use Rattle.sketch_levels.specs.Noted.{Note, live_keys}
-use Rattle.sketch_levels.proofs.Distinct.{by_order}
-
--- whether two keys are the same
-abbrev same : List ℕ → List ℕ → Bool
-same = eq_by_cmp (slice_cmp nat_cmp)
-
-same_is : (x y : List ℕ) → same x y ≡ true → x ≡ y
-same_is x y h = exact_bytes x y (equal_from_is_eq _ h)
-
-twice : (a b : Bool) → (a || b) ≡ (a || (a || b))
-twice true b = refl
-twice false b = refl
-
-swap : (a b c : Bool) → (a || (b || c)) ≡ (b || (a || c))
-swap true true c = refl
-swap true false c = refl
-swap false b c = refl
-
-or_none : (a : Bool) → a ≡ (a || false)
-or_none true = refl
-or_none false = refl
-
-turn : (a b c : Bool) → ((a || b) || c) ≡ (b || (a || c))
-turn true true c = refl
-turn true false c = refl
-turn false b c = refl
-
-any-with_key : (q : List ℕ) (keys : List (List ℕ)) (key : List ℕ) → list_any (same q) (with_key keys key) ≡ (same q key || list_any (same q) keys)
-any-with_key q [] key = refl
-any-with_key q (x ∷ keys) key = by_order (slice_cmp nat_cmp key x)
-    (λ less. rw less refl)
-    (λ equal. rw equal (twice (same q x) (list_any (same q) keys) ∙ ap (λ (k : List ℕ). same q k || (same q x || list_any (same q) keys)) (sym (exact_bytes key x equal))))
-    (λ greater. rw greater (ap (λ b. same q x || b) (any-with_key q keys key) ∙ swap (same q x) (same q key) (list_any (same q) keys)))
-
-any-fold : (q : List ℕ) (front keys : List (List ℕ)) → list_any (same q) (fold with_key front keys) ≡ (list_any (same q) front || list_any (same q) keys)
-any-fold q front [] = or_none (list_any (same q) front)
-any-fold q front (key ∷ keys) =
-    any-fold q (with_key front key) keys
-    ∙ ap (λ b. b || list_any (same q) keys) (any-with_key q front key)
-    ∙ turn (same q key) (list_any (same q) front) (list_any (same q) keys)
 
 any-distinct : (q : List ℕ) (keys : List (List ℕ)) → list_any (same q) (distinct keys) ≡ list_any (same q) keys
 unfolding distinct

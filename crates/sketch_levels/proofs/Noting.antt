@@ -19,7 +19,8 @@ use Rattle.count_sketch.specs.Counters.{Item}
 use Rattle.topk_heap.proofs.Lists.{all_weaker}
 use Rattle.sketch_levels.specs.Items.{distinct, distinct_keys, live_items, with_key}
 use Rattle.sketch_levels.specs.Noted.{HoldsNotes, Note, Noted, TakesKey, keys_at, live_keys, notes_of}
-use Rattle.sketch_levels.proofs.Distinct.{by_order, distinct-push}
+use Rattle.flow_keys.proofs.KeyOrder.{by_order}
+use Rattle.sketch_levels.proofs.Distinct.{distinct-push}
 
 abbrev Entries : Type 0
 Entries = List (List ℕ × ℕ)

@@ -1,7 +1,6 @@
 -- Unions of lists of keys: key by key, their order, and their length.
 use Rattle.std.proofs.Common.{◌≡◌, ℕ, zero, suc, ◌+◌, ◌≤◌, List, [], ◌∷◌, drop, length, refl, sym, subst, arith}
 use Rattle.std.specs.declared.cmp.Ordering.TheVariants.{Less, Equal, Greater}
-use Rattle.std.specs.BTreeSet.{insert_key}
 use Rattle.std.specs.Cmp.Lexicographic.{slice_cmp}
 use Rattle.std.specs.List.Sorted.{IsStrictlySortedBy}
 use Rattle.std.specs.Ordering.{nat_cmp}
@@ -11,11 +10,9 @@ use Rattle.std.proofs.lemmas.Map.Keys.{sorted_head, sorted_tail}
 use Rattle.std.proofs.lemmas.Map.Lookups.{exact_bytes}
 use Rattle.std.proofs.lemmas.Map.Views.{All-insert_key}
 use Rattle.sketch_merge.specs.Merged.{united}
-use Rattle.sketch_merge.proofs.Order.{IsBelow, below_first, by_order, greater_back, less_back}
-
--- a key put in its place
-abbrev pub with_key : List (List ℕ) → List ℕ → List (List ℕ)
-with_key keys key = insert_key (slice_cmp nat_cmp) keys key
+use Rattle.flow_keys.proofs.KeyOrder.{by_order, greater_back, less_back}
+use Rattle.flow_keys.proofs.KeySets.{with_key}
+use Rattle.sketch_merge.proofs.Order.{IsBelow, below_first}
 
 -- ---- key by key
 

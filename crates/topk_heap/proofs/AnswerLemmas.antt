@@ -10,7 +10,7 @@ use Rattle.std.proofs.lemmas.Cmp.{nat_list_cmp_total, tied_itself}
 use Rattle.std.proofs.lemmas.Map.Lookups.{exact_bytes}
 use Rattle.topk_heap.specs.Answer.{answer_of}
 use Rattle.topk_heap.specs.declared.offer.Offer.TheVariants.{KeptDropping, Refused}
-use Rattle.topk_heap.proofs.Order.{equal_from_is_eq}
+use Rattle.flow_keys.proofs.KeyOrder.{equal_from_is_eq}
 
 -- what a list of one key, or of none, contains
 the_one : (w y : List ℕ) → Contains (w ∷ []) y → w ≡ y

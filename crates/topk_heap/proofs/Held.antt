@@ -10,7 +10,7 @@ use Rattle.std.proofs.lemmas.Cmp.{nat_list_cmp_total, tied_back}
 use Rattle.std.proofs.lemmas.List.Folds.{list_any-append}
 use Rattle.topk_heap.specs.Ranking.{IsAscending, entry, holds, is_below, with_score}
 use Rattle.topk_heap.specs.declared.entry.Entry.{Entry}
-use Rattle.topk_heap.proofs.Order.{greater_back, less_back}
+use Rattle.flow_keys.proofs.KeyOrder.{greater_back, less_back}
 use Rattle.topk_heap.proofs.Scores.{AllAbove, above_equal, above_greater, with_equal, with_first, with_lesser}
 
 -- a list of greater keys doesn't hold the key

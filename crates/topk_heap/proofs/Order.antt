@@ -1,10 +1,9 @@
 -- The two orders of entries: by rank, and by key.
-use Rattle.std.proofs.Common.{◌≡◌, ℕ, ◌+◌, true, false, List, ◌<◌, get_or, refl, ◌∙◌, ap, arith, below_more}
+use Rattle.std.proofs.Common.{◌≡◌, ℕ, ◌+◌, true, false, List, ◌<◌, get_or, refl, ap, arith, below_more}
 use Rattle.std.specs.Cmp.{IsTotalOrder}
 use Rattle.std.specs.declared.cmp.Ordering.{Ordering}
 use Rattle.std.specs.declared.cmp.Ordering.TheVariants.{Less, Equal, Greater}
-use Rattle.std.specs.Ordering.{is_lt, is_eq, int_cmp, nat_cmp, ordering_then, ordering_reverse}
-use Rattle.std.specs.Cmp.Lexicographic.{slice_cmp}
+use Rattle.std.specs.Ordering.{is_lt, int_cmp, ordering_then, ordering_reverse}
 use Rattle.std.proofs.lemmas.Cmp.{then_total, back_total, on_total, int_cmp_total, nat_list_cmp_total, tied_itself, tied_back}
 use Rattle.topk_heap.specs.Ranking.{rank_cmp, key_cmp, ranks_before}
 use Rattle.topk_heap.specs.declared.entry.Entry.{Entry}
@@ -22,11 +21,6 @@ pub less_from_is_lt : (o : Ordering) → is_lt o ≡ true → o ≡ Less
 less_from_is_lt Less h = refl
 less_from_is_lt Equal h = cc
 less_from_is_lt Greater h = cc
-
-pub equal_from_is_eq : (o : Ordering) → is_eq o ≡ true → o ≡ Equal
-equal_from_is_eq Less h = cc
-equal_from_is_eq Equal h = refl
-equal_from_is_eq Greater h = cc
 
 pub not_before_itself : (e : Entry) → ranks_before e e ≡ false
 not_before_itself e = ap is_lt (tied_itself rank_total e)
@@ -56,13 +50,6 @@ pub before_if_not : (x y : Entry) → (key_cmp x y ≡ Equal → ⊥) → ranks_
 before_if_not x y apart behind =
     is_lt_back (rank_cmp y x) (rank_cmp x y) (rank_total.antisymm x y) behind
     (λ same. apart (tied_back key_total y x (second_equal (int_cmp x.score y.score) (key_cmp y x) same)))
-
--- two keys in the other order
-pub less_back : (x y : List ℕ) → slice_cmp nat_cmp x y ≡ Greater → slice_cmp nat_cmp y x ≡ Less
-less_back x y h = nat_list_cmp_total.antisymm y x ∙ ap ordering_reverse h
-
-pub greater_back : (x y : List ℕ) → slice_cmp nat_cmp x y ≡ Less → slice_cmp nat_cmp y x ≡ Greater
-greater_back x y h = nat_list_cmp_total.antisymm y x ∙ ap ordering_reverse h
 
 -- of the entries before `upto` none ranks behind the one at `place`
 pub record IsLastSoFar (entries : List Entry) (place upto : ℕ) : Type 0 where

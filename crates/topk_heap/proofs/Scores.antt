@@ -11,7 +11,8 @@ use Rattle.std.proofs.lemmas.List.Kept.{IsStrictlySortedBy-filter}
 use Rattle.topk_heap.specs.Ranking.{IsAscending, entry, is_below, key_cmp, with_score}
 use Rattle.topk_heap.specs.declared.entry.Entry.{Entry}
 use Rattle.topk_heap.proofs.Lists.{all_append, all_weaker, filter_all, filter_none, length-filter-apart}
-use Rattle.topk_heap.proofs.Order.{greater_back, key_total, less_back, less_from_is_lt}
+use Rattle.flow_keys.proofs.KeyOrder.{greater_back, less_back}
+use Rattle.topk_heap.proofs.Order.{key_total, less_from_is_lt}
 
 -- the keys of all entries are above, or below, this one
 abbrev pub AllAbove : List ℕ → List Entry → Type 0

@@ -1,5 +1,4 @@
-use Rattle.std.proofs.Common.{◌≡◌, ◌+◌, ◌-◌, ◌++◌, ℕ, List, sym, ◌∙◌, ap, subst, arith}
-use Rattle.count_sketch.specs.Counters.{Item}
+use Rattle.std.proofs.Common.{◌≡◌, ◌+◌, ◌-◌, ℕ, ◌∙◌, ap, arith}
 use Rattle.mon_command.specs.Central.{central_view}
 use Rattle.mon_command.specs.Routed.{items_in}
 use Rattle.mon_command.specs.Sketched.{IsSketch}

@@ -1,5 +1,4 @@
-use Rattle.std.proofs.Common.{◌∙◌}
-use Rattle.mon_command.proofs.Answered.{part_of_trace, report_due}
+use Rattle.mon_command.proofs.Answered.{part_of_trace}
 use Rattle.mon_command.proofs.central.report.Goals as goal
 
 pub text-requires-clause-part : goal.text-requires-clause-part

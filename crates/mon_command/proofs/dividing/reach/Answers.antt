@@ -1,4 +1,4 @@
-use Rattle.std.proofs.Common.{◌≡◌, ◌+◌, ◌++◌, [], ◌∷◌, ℕ, List, length, sym, ◌∙◌, ap, subst, arith, length-append}
+use Rattle.std.proofs.Common.{◌≡◌, ◌+◌, ◌++◌, [], ◌∷◌, List, length, sym, ◌∙◌, ap, subst, arith, length-append}
 use Rattle.mon_command.specs.Sketched.{Splits}
 use Rattle.mon_command.specs.declared.sketching.Sketched.{Sketched}
 use Rattle.mon_command.proofs.Splitting.{splits_reach}

@@ -1,4 +1,4 @@
-use Rattle.std.proofs.Common.{◌≡◌, ◌≤◌, ◌-◌, max, List, length}
+use Rattle.std.proofs.Common.{◌≤◌, ◌-◌, max, List, length}
 use Rattle.mon_command.specs.Routed.{Routed}
 use Rattle.mon_command.specs.Sketched.{Splits}
 use Rattle.mon_command.proofs.dividing.reach.Given as goal

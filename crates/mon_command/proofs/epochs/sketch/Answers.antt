@@ -1,10 +1,10 @@
-use Rattle.std.proofs.Common.{◌≡◌, ◌≤◌, ◌+◌, ◌++◌, ℕ, List, length, Err, arith, sym, ◌∙◌, ap, subst, length-append, [], ◌∷◌}
+use Rattle.std.proofs.Common.{◌++◌, ℕ, List, Err, arith, sym, ◌∙◌, ap, subst, length-append, [], ◌∷◌}
 use Rattle.flow_keys.specs.Frame.{frame_key}
 use Rattle.pcap_reader.specs.declared.header.Header.{Header}
 use Rattle.mon_command.specs.Scan.{Divided}
 use Rattle.mon_command.specs.Sketched.{Divides, IsDivided}
 use Rattle.mon_command.specs.declared.stop.TraceStop.{TraceStop}
-use Rattle.mon_command.proofs.Readings.{few_before, key_read, part_of, seconds_read}
+use Rattle.mon_command.proofs.Readings.{few_before, key_read, seconds_read}
 use Rattle.mon_command.proofs.Scans.{divided_begun, divided_counted, divided_stop, never_read, whole_trace}
 use Rattle.mon_command.proofs.epochs.sketch.Goals as goal
 

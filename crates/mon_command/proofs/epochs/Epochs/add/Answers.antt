@@ -1,4 +1,4 @@
-use Rattle.std.proofs.Common.{◌≡◌, ℕ, ◌+◌, ◌<◌, ◌≤◌, ◌++◌, [], ◌∷◌, max, cond, true, false, List, length, is_some, Option, Some, None, unwrap_or, refl, sym, ◌∙◌, ap, subst, arith, rules, length-append}
+use Rattle.std.proofs.Common.{◌≡◌, ℕ, ◌+◌, ◌++◌, [], ◌∷◌, max, cond, true, false, List, length, is_some, Option, Some, unwrap_or, refl, sym, ◌∙◌, ap, subst, arith, rules}
 use Rattle.std.specs.Option.{option_to_list}
 use Rattle.std.proofs.lemmas.List.{with_items_is}
 use Rattle.mon_command.specs.Routed.{Routed, epoch_at, has_path, item_of, routed_of, routed_one}

@@ -1,4 +1,3 @@
-use Rattle.std.proofs.Common.{◌≡◌, ◌≤◌, ◌<◌, ◌+◌, ℕ, List, [], length, max, refl, sym, ◌∙◌, ap, subst, arith}
 use Rattle.mon_command.proofs.OneMore.{divides_none}
 use Rattle.mon_command.proofs.epochs.Epochs.new.Goals as goal
 

@@ -1,6 +1,5 @@
-use Rattle.std.proofs.Common.{◌≡◌, ◌≤◌, ℕ, List, length, sym, ◌∙◌, ap, subst, arith}
-use Rattle.pcap_reader.specs.declared.header.Header.{Header}
-use Rattle.mon_command.specs.Routed.{number_of_epochs, routed_of}
+use Rattle.std.proofs.Common.{List, length, sym, ◌∙◌, ap, subst, arith}
+use Rattle.mon_command.specs.Routed.{routed_of}
 use Rattle.mon_command.specs.Sketched.{Splits}
 use Rattle.mon_command.specs.declared.sketching.Sketched.{Sketched}
 use Rattle.mon_command.proofs.OneMore.{central_text_is}
