@@ -13,3 +13,4 @@ pub mod WeakDuality
 pub mod Exploring
 pub mod Wholes
 pub mod Meanings
+pub mod Written

@@ -16,6 +16,7 @@
 //! memory.
 #![tactic(auto)]
 
+mod bytes;
 mod checker;
 mod choices;
 mod completion;
@@ -33,10 +34,12 @@ mod placement;
 mod problem;
 mod site;
 mod tally;
+mod text;
 mod tree;
 mod verdict;
 mod within;
 
+pub use bytes::tree_bytes;
 pub use checker::check;
 pub use formed::is_formed;
 pub use judge::check_outcome;
@@ -45,6 +48,7 @@ pub use outcome::{Outcome, OutcomeFault};
 pub use placement::{Placement, cost, first_fit, fits};
 pub use problem::Problem;
 pub use site::Site;
+pub use text::tree_text;
 pub use tree::Tree;
 pub use verdict::{TreeFault, TreeWhy, Verdict};
 pub use within::is_within;
