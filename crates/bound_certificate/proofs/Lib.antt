@@ -14,3 +14,5 @@ pub mod Exploring
 pub mod Wholes
 pub mod Meanings
 pub mod Written
+pub mod FloorLaw
+pub mod FloorDual
