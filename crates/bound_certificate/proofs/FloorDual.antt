@@ -1,6 +1,6 @@
 -- The floor of a node is the value of a Dual leaf there that is right.
-use Rattle.std.proofs.Common.{◌≡◌, ℕ, zero, suc, ◌+◌, ◌-◌, ◌*◌, ◌≤◌, ◌<◌, Bool, true, false, cond, ◌==◌, List, [], ◌∷◌, length, map, get_or, slice_index, Option, None, Some, ℤ, pos, ◌-ℤ◌, inl, inr, refl, sym, ◌∙◌, ap, subst, arith}
-use Rattle.std.specs.Prelude.{not, nat_lt, sum, replicate}
+use Rattle.std.proofs.Common.{◌≡◌, ℕ, zero, suc, ◌+◌, ◌-◌, ◌*◌, ◌≤◌, ◌<◌, Bool, true, false, cond, ◌==◌, List, length, map, slice_index, Option, None, Some, pos, ◌-ℤ◌, inl, inr, refl, ◌∙◌, ap, subst, arith}
+use Rattle.std.specs.Prelude.{not, replicate}
 use Rattle.std.specs.List.{range_with_len}
 use Rattle.std.specs.Option.{option_map, option_or}
 use Rattle.std.proofs.lemmas.Bool.{cases_Bool, and_from, eq-eqb, le-ltb}
@@ -10,12 +10,12 @@ use Rattle.std.proofs.lemmas.List.{length-replicate}
 use Rattle.std.proofs.lemmas.List.FromFn.{length-map-range_with_len, get_or-map-range_with_len}
 use Rattle.bound_certificate.specs.Sums.{sum_below, first_below, has}
 use Rattle.bound_certificate.specs.Problem.{Problem, site_count, need_count, capacity, load, via}
-use Rattle.bound_certificate.specs.Placement.{given, service, cost}
+use Rattle.bound_certificate.specs.Placement.{given, service}
 use Rattle.bound_certificate.specs.Node.{DualPart, is_over, is_dual_shape, excess, dual_sum, dual_limit, is_breached, dual_breach, priced_given_by, priced_capacity_by, dual_credit, dual_debit, dual_value, dual_fault, node_fault}
 use Rattle.bound_certificate.specs.Floor.{least_by, need_price, floor_by, floor}
 use Rattle.bound_certificate.specs.declared.verdict.TreeWhy.TheVariants.{IsOver, Depth, DualShape, DualSum}
 use Rattle.bound_certificate.proofs.FloorLaw.{least_at, first_price}
-use Rattle.bound_certificate.proofs.Fitting.{StandsAt, has-place}
+use Rattle.bound_certificate.proofs.Fitting.{has-place}
 use Rattle.bound_certificate.proofs.Sums.{sum_below-same, sum_below-zero, sum_below-first, sum-index}
 
 -- the least numbers of the later needs, and no price on any site

@@ -1,12 +1,12 @@
 -- The floor never falls on the way down, so that a tree's bound is at least its root's floor.
-use Rattle.std.proofs.Common.{◌≡◌, ℕ, zero, suc, ◌+◌, ◌-◌, ◌*◌, ◌≤◌, ◌<◌, Bool, true, false, cond, ◌==◌, ◌&&◌, ◌||◌, min, List, [], ◌∷◌, ◌++◌, length, map, get_or, slice_index, Option, None, Some, ℤ, pos, ◌≤ℤ◌, inl, inr, refl, sym, ◌∙◌, ap, subst, arith, length-append}
+use Rattle.std.proofs.Common.{◌≡◌, ℕ, zero, suc, ◌+◌, ◌-◌, ◌≤◌, ◌<◌, Bool, true, false, cond, ◌==◌, ◌||◌, min, List, [], ◌∷◌, ◌++◌, length, map, slice_index, Option, None, Some, ℤ, pos, ◌≤ℤ◌, refl, sym, ◌∙◌, ap, subst, arith, length-append}
 use Rattle.std.specs.Prelude.{fold, int_le, nat_lt}
 use Rattle.std.specs.Int.{int_min}
 use Rattle.std.specs.List.{AllByRecursion, list_any}
-use Rattle.std.proofs.lemmas.Bool.{cases_Bool, and_parts, eqb-true, ltb-false}
+use Rattle.std.proofs.lemmas.Bool.{and_parts, ltb-false}
 use Rattle.std.proofs.lemmas.Bool.Decides.{nat_tests}
 use Rattle.std.proofs.lemmas.Int.{ints}
-use Rattle.std.proofs.lemmas.List.{get_or_append_left, get_or_push, nil_from_length}
+use Rattle.std.proofs.lemmas.List.{get_or_append_left, get_or_push}
 use Rattle.std.proofs.lemmas.List.Folds.{list_any-append}
 use Rattle.bound_certificate.specs.Sums.{sum_below, has}
 use Rattle.bound_certificate.specs.Limits.{IsWithin}
@@ -15,14 +15,14 @@ use Rattle.bound_certificate.specs.Placement.{opened_by, opened, service, served
 use Rattle.bound_certificate.specs.Node.{Part, BranchPart, OverPart, HallPart, DualPart, FullPart, is_over, dual_limit, dual_value, full_fault, node_fault}
 use Rattle.bound_certificate.specs.Floor.{least_by, need_price, floor_by, floor}
 use Rattle.bound_certificate.specs.Bound.{IsAtLeast}
-use Rattle.bound_certificate.specs.Tree.{Visit, part_of, children_of, child_choices, below, visits, first_fault, part_value, lesser, bound_of}
+use Rattle.bound_certificate.specs.Tree.{part_of, children_of, child_choices, below, visits, first_fault, part_value, lesser, bound_of}
 use Rattle.bound_certificate.specs.Outcome.{is_beaten, is_tight, is_explored, are_explored}
 use Rattle.bound_certificate.specs.declared.tree.Tree.{Tree}
 use Rattle.bound_certificate.specs.declared.verdict.TreeWhy.TheVariants.{IsOver, Depth}
 use Rattle.bound_certificate.proofs.Prices.{if_none}
 use Rattle.bound_certificate.proofs.Trees.{visits-out, fan, fan-part_of, tree_induction}
 use Rattle.bound_certificate.proofs.Verdicts.{first_fault-append, bound_of-append}
-use Rattle.bound_certificate.proofs.Nodes.{IsBranching, branch_right, none_first, node_is_right, has-at, choices_more, length-child_choices}
+use Rattle.bound_certificate.proofs.Nodes.{branch_right, none_first, node_is_right, has-at, choices_more}
 use Rattle.bound_certificate.proofs.Exploring.{are_explored-out, are_explored-append}
 use Rattle.bound_certificate.proofs.Fitting.{via-known}
 use Rattle.bound_certificate.proofs.Known.{has-below}

@@ -16,3 +16,4 @@ pub mod Meanings
 pub mod Written
 pub mod FloorLaw
 pub mod FloorDual
+pub mod FirstFit
