@@ -15,7 +15,7 @@ use std::alloc::Global;
 /// have eight bytes, the low one first.
 pub fn tree_bytes(alloc: Global, tree: &Tree) -> Result<Vec<u8>, Memory>
     requires { IsTrue (is_formed tree.now) }
-    ensures { IfOk result (λ bytes. bytes.items ≡ bytes_of tree.now) }
+    ensures value { IfOk result (λ bytes. bytes.items ≡ bytes_of tree.now) }
 {
     let mut out = Vec::new(alloc);
     put_tree(&mut out, tree, 0)?;

@@ -36,7 +36,7 @@ pub fn fits(problem: &Problem, placement: &Placement) -> bool
 /// cost per unit. There is one site of its via for each need. Takes no memory.
 pub fn cost(problem: &Problem, placement: &Placement) -> i128
     requires { IsTrue (is_placement problem.now placement.now.sites) }
-    ensures { result ≡ pos (cost problem.now placement.now.sites) }
+    ensures value { result ≡ pos (cost problem.now placement.now.sites) }
 {
     i128::from(cost_of(problem, placement.sites.as_slice()))
 }

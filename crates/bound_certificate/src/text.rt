@@ -13,7 +13,7 @@ use std::alloc::Global;
 /// The text of a tree: a head line, a line for each node in preorder, and an end line.
 #[tactic(auto, unfolding(crate::specs::Text::text_of))]
 pub fn tree_text(alloc: Global, tree: &Tree) -> Result<String, Memory>
-    ensures { IfOk result (λ text. string_bytes text ≡ text_of tree.now) }
+    ensures value { IfOk result (λ text. string_bytes text ≡ text_of tree.now) }
 {
     let mut text = String::new(alloc);
     put(&mut text, "univmon tree 1\n")?;

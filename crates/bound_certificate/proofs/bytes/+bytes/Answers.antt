@@ -16,7 +16,7 @@ put_tree-put_part-requires t c = (is_formed_at-parts c.args.tree.now c.args.dept
 pub put_tree-put_trees-requires : goal.put_tree-put_trees-requires
 put_tree-put_trees-requires t c =
     let parts = is_formed_at-parts c.args.tree.now c.args.depth c.requires.formed in
-    rw c.children.ensures (
+    rw c.children.ensures.value (
       omega (arith, c.decreases, nodes-out c.args.tree.now),
       (
         parts.1,
@@ -30,7 +30,7 @@ put_tree-returns t c =
     on_ok c.put_trees.result
     (λ rest. written c.put_trees.new.out.items c.put_part.new.out.items c.args.out.now.items (part_bytes (part_of tree)) (concat (map bytes_of (children_of tree))) (bytes_of tree)
     c.in_ok-put_part.ensures (bytes_of-out tree) rest)
-    (rw c.children.ensures at c.put_trees.ensures)
+    (rw c.children.ensures.value at c.put_trees.ensures)
 
 pub put_trees-put_tree-requires : goal.put_trees-put_tree-requires
 put_trees-put_tree-requires t c =

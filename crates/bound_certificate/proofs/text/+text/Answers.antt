@@ -10,7 +10,7 @@ use Rattle.bound_certificate.proofs.Nodes.{nodes_at}
 use Rattle.bound_certificate.proofs.text.+text.Goals as goal
 
 pub put_tree-put_trees-requires : goal.put_tree-put_trees-requires
-put_tree-put_trees-requires t c = rw c.children.ensures (omega (arith, c.decreases, nodes-out c.args.tree.now))
+put_tree-put_trees-requires t c = rw c.children.ensures.value (omega (arith, c.decreases, nodes-out c.args.tree.now))
 
 pub put_tree-returns : goal.put_tree-returns
 put_tree-returns t c =
@@ -18,7 +18,7 @@ put_tree-returns t c =
     on_ok c.put_trees.result
     (λ rest. written (string_bytes c.put_trees.new.text) (string_bytes c.put_line.new.text) (string_bytes c.args.text.now) (part_line (part_of tree)) (concat (map lines_of (children_of tree))) (lines_of tree)
     c.in_ok-put_line.ensures (lines_of-out tree) rest)
-    (rw c.children.ensures at c.put_trees.ensures)
+    (rw c.children.ensures.value at c.put_trees.ensures)
 
 pub put_trees-put_tree-requires : goal.put_trees-put_tree-requires
 put_trees-put_tree-requires t c =
