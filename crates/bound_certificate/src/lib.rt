@@ -43,9 +43,15 @@ mod within;
 
 pub use bytes::tree_bytes;
 pub use checker::check;
+pub use choices::cost_of;
+pub use completion::complete;
+pub use dual::{dual_breach, dual_limit, dual_value};
 pub use formed::is_formed;
+pub use hall::{is_crowded, is_hall_set, later};
 pub use judge::check_outcome;
 pub use need::Need;
+pub use node::is_over;
+pub use numbers::{Numbers, has};
 pub use outcome::{Outcome, OutcomeFault};
 pub use placement::{Placement, cost, first_fit, fits};
 pub use problem::Problem;

@@ -1,0 +1,6 @@
+pub mod Better
+pub mod Room
+pub mod Floors
+pub mod Leaves
+pub mod Composed
+pub mod Conclusions

@@ -1,0 +1,4 @@
+pub mod Kept
+pub mod Leaf
+pub mod Searched
+pub mod Shown

@@ -1,0 +1,106 @@
+//! The prices of a Dual leaf.
+ghost use Rattle.std.specs.Prelude.{◌≡◌, ◌<◌, ◌≤◌, ◌+◌, ◌-◌, ◌^◌, ℕ, length, slice_index, All, IfOk};
+ghost use Rattle.bound_certificate.specs.Problem.{site_count, need_count};
+ghost use Rattle.bound_certificate.specs.Placement.{AreChoices};
+ghost use Rattle.bound_certificate.specs.Floor.{need_price, floor_by};
+ghost use Rattle.placement_search.specs.Leaf.{IsFloorDual, IsDual};
+
+use bound_certificate::{Problem, dual_limit};
+use mon_io::Memory;
+use sqlite_items::Items;
+use std::alloc::Global;
+
+/// A price for each need without a choice, and one for each unit of a site's capacity.
+#[derive(Drop)]
+pub struct Prices {
+    /// By need, from the first one without a choice on.
+    pub lambda: Items<u64>,
+    /// By site.
+    pub mu: Items<u64>,
+}
+
+/// Prices whose dual is right and whose value is at least the node's floor.
+pub fn prices_at(alloc: Global, problem: &Problem, choices: &[u8]) -> Result<Prices, Memory>
+    requires { AreChoices problem.now choices.now }
+    ensures { IfOk result (λ prices. IsDual problem.now choices.now prices.lambda prices.mu) }
+{
+    // Its sites are within their limits, so that each via names one of them.
+    let _sites = problem.sites();
+    floor_prices(alloc, problem, choices)
+}
+
+// The prices whose value is the node's floor.
+fn floor_prices(alloc: Global, problem: &Problem, choices: &[u8]) -> Result<Prices, Memory>
+    requires { AreChoices problem.now choices.now }
+    ensures { IfOk result (λ prices. IsFloorDual problem.now choices.now prices.lambda prices.mu) }
+{
+    let lambda = least_prices(alloc, problem, choices)?;
+    let mu = free_sites(alloc, problem)?;
+    Ok(Prices { lambda, mu })
+}
+
+// The least that each later need costs.
+fn least_prices(alloc: Global, problem: &Problem, choices: &[u8]) -> Result<Items<u64>, Memory>
+    requires { length choices.now ≤ need_count problem.now }
+    ensures size { IfOk result (λ lambda. length lambda ≡ need_count problem.now - length choices.now) }
+    ensures least { IfOk result (λ lambda. (j : ℕ) → j < length lambda
+        → slice_index lambda j ≡ floor_by problem.now choices.now j) }
+    ensures small { IfOk result (All (λ x. x < 2 ^ 56)) }
+{
+    let mut lambda = Items::new(alloc);
+    let later = usize::from(problem.need_count()) - choices.len();
+    for j in 0..later {
+        let least = least_price(problem, choices, j);
+        if lambda.push(least).is_err() {
+            return Err(Memory);
+        }
+    }
+    Ok(lambda)
+}
+
+// A price of 0 for each site.
+fn free_sites(alloc: Global, problem: &Problem) -> Result<Items<u64>, Memory>
+    ensures size { IfOk result (λ mu. length mu ≡ site_count problem.now) }
+    ensures free { IfOk result (λ mu. (s : ℕ) → slice_index mu s ≡ 0) }
+{
+    let mut mu = Items::new(alloc);
+    for _ in 0..problem.site_count() {
+        if mu.push(0).is_err() {
+            return Err(Memory);
+        }
+    }
+    Ok(mu)
+}
+
+// The least that a later need costs at a site of its via.
+#[tactic(auto, unfolding(bound_certificate::specs::Floor::floor_by, bound_certificate::specs::Floor::least_by))]
+fn least_price(problem: &Problem, choices: &[u8], j: usize) -> u64
+    requires need { length choices.now + j < need_count problem.now }
+    requires few { need_count problem.now ≤ 64 }
+    ensures value { result ≡ floor_by problem.now choices.now j }
+    ensures bound { result ≤ 2 ^ 33 }
+{
+    let via = problem.via(choices.len() + j);
+    let mut least = price_at(problem, choices, j, via[0]);
+    for site in via {
+        least = least.min(price_at(problem, choices, j, *site));
+    }
+    least
+}
+
+// What a later need costs at a site: its service, and for the first one the opening.
+#[tactic(auto, unfolding(bound_certificate::specs::Floor::need_price))]
+fn price_at(problem: &Problem, choices: &[u8], j: usize, site: u8) -> u64
+    requires need { length choices.now + j < need_count problem.now }
+    requires few { need_count problem.now ≤ 64 }
+    requires site { site < site_count problem.now }
+    ensures value { result ≡ need_price problem.now choices.now j site }
+    ensures bound { result ≤ 2 ^ 33 }
+{
+    let service = problem.service(usize::from(site), choices.len() + j);
+    if j == 0 {
+        service + u64::from(dual_limit(problem, choices, site))
+    } else {
+        service
+    }
+}
