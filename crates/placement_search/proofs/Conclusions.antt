@@ -33,7 +33,7 @@ use Rattle.placement_search.specs.Leaf.{IsCrowd}
 use Rattle.placement_search.specs.Searched.{IsSearched, IsTreeSearched}
 use Rattle.placement_search.specs.Shown.{IsSettled, unplaced, concluded}
 use Rattle.placement_search.proofs.Leaves.{both, later_set, length-later, hall_right, formed_hall}
-use Rattle.placement_search.proofs.Room.{roomy_nothing}
+use Rattle.placement_search.proofs.Capacities.{roomy_nothing}
 use Rattle.placement_search.proofs.Composed.{branches-visits}
 
 none_where_not_some : (bound : Option ℤ) → is_some bound ≡ false → is_none bound ≡ true

@@ -26,7 +26,7 @@ use Rattle.placement_search.specs.declared.progress.Progress.{Progress}
 use Rattle.placement_search.specs.Kept.{IsKept, IsRoomy, reaches}
 use Rattle.placement_search.specs.Leaf.{IsCrowd, IsDual, IsLeaf, IsOpen}
 use Rattle.placement_search.proofs.Better.{le_itself}
-use Rattle.placement_search.proofs.Room.{all_below-from}
+use Rattle.placement_search.proofs.Capacities.{all_below-from}
 
 pub both : (a b : Bool) → a ≡ true → b ≡ true → (a && b) ≡ true
 both true b h k = k

@@ -10,7 +10,7 @@ use Rattle.placement_search.specs.declared.progress.Progress.{Progress}
 use Rattle.placement_search.specs.Kept.{IsKept, IsRoomy}
 use Rattle.placement_search.specs.Leaf.{IsLeaf, IsOpen}
 use Rattle.placement_search.specs.Searched.{IsTreeSearched, AreSearched}
-use Rattle.placement_search.proofs.Room.{roomy_push}
+use Rattle.placement_search.proofs.Capacities.{roomy_push}
 use Rattle.placement_search.proofs.Composed.{pushed_ok, kept_on, leaf_searched, over_searched, branch_searched, child_searched, children_nothing}
 use Rattle.placement_search.proofs.branching.+branching.Goals as goal
 
