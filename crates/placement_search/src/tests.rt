@@ -114,7 +114,7 @@ fn the_dear_site_is_cheaper_for_both(rt: HostRuntime) -> Result<(), Fail> {
     let outcome = search(rt.alloc(), &problem, 1024).expect(&rt, "ample memory");
     let found = verdict(&rt, &problem, 1024, &outcome).map_err(|_| "a right outcome")?;
     assert_eq!(rt; found.bound, Some(12));
-    let Outcome::Placed { placement, tree: _ } = outcome else {
+    let Outcome::Placed { placement, tree: _ } = &outcome else {
         return Err("a placement".into());
     };
     assert_eq!(rt; placement.sites.as_slice(), [1, 1].as_slice());
