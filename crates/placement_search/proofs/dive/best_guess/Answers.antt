@@ -1,4 +1,4 @@
-use Rattle.std.proofs.Common.{◌≡◌, ◌<◌, ℕ, true, ◌⊎◌, inl, inr, List, Option, None, Some, length, slice_index, sym, ◌∙◌, ap, subst}
+use Rattle.std.proofs.Common.{◌≡◌, ◌<◌, ℕ, true, ◌⊎◌, inl, inr, List, Option, None, Some, length, slice_index, ◌∙◌, ap}
 use Rattle.std.specs.Prelude.{IfSome}
 use Rattle.bound_certificate.specs.Problem.{via}
 use Rattle.bound_certificate.specs.Sums.{has}

@@ -1,4 +1,4 @@
-use Rattle.std.proofs.Common.{◌≡◌, ◌<◌, ◌+◌, length, arith, length-append}
+use Rattle.std.proofs.Common.{◌<◌, length, arith, length-append}
 use Rattle.bound_certificate.specs.Problem.{need_count}
 use Rattle.bound_certificate.proofs.Nodes.{choices_push}
 use Rattle.placement_search.proofs.dive.dive.Goals as goal

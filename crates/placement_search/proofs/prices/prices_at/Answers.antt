@@ -1,5 +1,4 @@
 use Rattle.placement_search.proofs.Floors.{floor_dual}
-use Rattle.placement_search.specs.Leaf.{IsDual}
 use Rattle.placement_search.proofs.prices.prices_at.Goals as goal
 
 pub is_better-requires-clause-floor : goal.is_better-requires-clause-floor

@@ -1,5 +1,3 @@
-use Rattle.std.proofs.Common.{◌≡◌, None, ◌∙◌}
-use Rattle.placement_search.specs.Kept.{IsKept}
 use Rattle.placement_search.proofs.Capacities.{roomy_nothing, root_beaten}
 use Rattle.placement_search.proofs.root.begin.Goals as goal
 

@@ -1,17 +1,14 @@
 -- A crowd of all needs settles it; else the searched tree shows what is concluded.
-use Rattle.std.proofs.Common.{◌≡◌, ◌<◌, ◌≤◌, true, [], length, None, sym, ◌∙◌, ap, subst, arith}
+use Rattle.std.proofs.Common.{◌≡◌, ◌<◌, [], None, sym, ◌∙◌, ap, subst}
 use Rattle.bound_certificate.specs.Problem.{need_count}
-use Rattle.bound_certificate.specs.Node.{is_crowded, later}
 use Rattle.bound_certificate.specs.Tree.{visits, first_fault}
 use Rattle.bound_certificate.specs.Formed.{is_formed}
-use Rattle.bound_certificate.specs.Outcome.{tree_of, is_right}
-use Rattle.bound_certificate.specs.Whole.{whole}
+use Rattle.bound_certificate.specs.Outcome.{tree_of}
 use Rattle.bound_certificate.specs.declared.tree.Tree.{Tree}
 use Rattle.bound_certificate.specs.declared.outcome.Outcome.{Outcome}
 use Rattle.bound_certificate.specs.declared.outcome.Outcome.TheVariants.{Infeasible}
 use Rattle.bound_certificate.specs.declared.tree.Tree.TheVariants.{Hall}
 use Rattle.bound_certificate.proofs.Nodes.{if_ok}
-use Rattle.placement_search.specs.Leaf.{IsCrowd}
 use Rattle.placement_search.specs.Searched.{IsTreeSearched}
 use Rattle.placement_search.specs.Shown.{IsSettled, concluded}
 use Rattle.placement_search.proofs.Capacities.{roomy_nothing}
