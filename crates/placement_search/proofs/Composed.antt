@@ -1,5 +1,5 @@
 -- Searched parts of a tree, put together.
-use Rattle.std.proofs.Common.{◌≡◌, ℕ, suc, ◌+◌, ◌-◌, ◌≤◌, ◌<◌, Bool, true, false, cond, ◌==◌, ◌&&◌, List, [], ◌∷◌, ◌++◌, length, map, slice_index, Option, None, Some, Result, Ok, Err, ℤ, pos, refl, sym, ◌∙◌, ap, subst, arith, length-append, append_assoc}
+use Rattle.std.proofs.Common.{◌≡◌, ℕ, suc, ◌+◌, ◌≤◌, ◌<◌, Bool, true, false, cond, ◌==◌, ◌&&◌, List, [], ◌∷◌, ◌++◌, length, map, slice_index, Option, None, Some, Result, Ok, Err, refl, sym, ◌∙◌, ap, subst, arith, length-append, append_assoc}
 use Rattle.std.specs.Prelude.{sum, not, nat_lt, nat_le, IfSome, OnOk, is_err}
 use Rattle.std.specs.List.{list_all, AllByRecursion}
 use Rattle.std.specs.Option.{option_map, option_or}
@@ -7,15 +7,12 @@ use Rattle.std.proofs.lemmas.Bool.{eq-eqb, lt-ltb, le-leb}
 use Rattle.std.proofs.lemmas.List.Folds.{list_all-append}
 use Rattle.bound_certificate.specs.Limits.{IsWithin}
 use Rattle.bound_certificate.specs.Problem.{Problem, need_count, via}
-use Rattle.bound_certificate.specs.Node.{Part, BranchPart, OverPart, HallPart, DualPart, FullPart, is_over, is_crowded, later, branch_fault, over_fault, node_fault}
-use Rattle.bound_certificate.specs.Tree.{Visit, part_of, children_of, child_choices, part_value, lesser, is_branch, below, visits, first_fault, bound_of, branches_of}
+use Rattle.bound_certificate.specs.Node.{Part, BranchPart, OverPart, is_over, is_crowded, later, branch_fault, over_fault, node_fault}
+use Rattle.bound_certificate.specs.Tree.{Visit, part_of, children_of, child_choices, part_value, is_branch, below, visits, first_fault, bound_of, branches_of}
 use Rattle.bound_certificate.specs.Formed.{branches, is_formed_part, is_formed_at}
-use Rattle.bound_certificate.specs.Floor.{floor}
 use Rattle.bound_certificate.specs.Outcome.{completion, is_no_better, is_beaten, is_tight, is_explored, are_explored, first_fit_cost}
 use Rattle.bound_certificate.specs.declared.tree.Tree.{Tree}
 use Rattle.bound_certificate.specs.declared.tree.Tree.TheVariants.{Branch, Over}
-use Rattle.bound_certificate.specs.declared.verdict.TreeWhy.{TreeWhy}
-use Rattle.bound_certificate.specs.declared.verdict.TreeFault.{TreeFault}
 use Rattle.bound_certificate.specs.declared.verdict.TreeWhy.TheVariants.{NotOver, IsOver, Depth, Children, Idle}
 use Rattle.bound_certificate.proofs.Trees.{visits-out, branches-out, is_formed_at-out, part_of-Branch, part_of-Over, children_of-Branch, children_of-Over, tree_induction}
 use Rattle.bound_certificate.proofs.Verdicts.{first_fault-append, bound_of-append, branches_of-append, lesser-None}
@@ -25,7 +22,7 @@ use Rattle.placement_search.specs.declared.progress.Progress.{Progress}
 use Rattle.placement_search.specs.Kept.{IsCostOf, IsKept, IsNoWorse, IsRoomy, reaches}
 use Rattle.placement_search.specs.Leaf.{IsLeaf, IsOpen}
 use Rattle.placement_search.specs.Searched.{IsSearched, IsTreeSearched, AreSearched}
-use Rattle.placement_search.proofs.Better.{no_better-refl, no_better-trans, beaten_better, explored_better, reaches_better, reaches_both}
+use Rattle.placement_search.proofs.Better.{no_better-refl, no_better-trans, explored_better, reaches_better, reaches_both}
 use Rattle.placement_search.proofs.Leaves.{both, negated, passes_by, not_last}
 
 -- no nodes

@@ -1,6 +1,6 @@
 -- What a searched tree shows.
 use Rattle.std.proofs.Common.{◌≡◌, ℕ, suc, zero, ◌+◌, ◌≤◌, ◌<◌, Bool, true, false, cond, ◌==◌, ◌&&◌, ◌||◌, ◌⊎◌, inl, inr, List, [], ◌∷◌, map, length, Option, None, Some, Result, Ok, Err, ℤ, pos, ◌≤ℤ◌, refl, sym, ◌∙◌, ap, subst, arith}
-use Rattle.std.specs.Prelude.{is_some, is_none, is_ok, not, nat_lt, nat_le, int_le, IfSome, IsTrue}
+use Rattle.std.specs.Prelude.{is_some, is_none, is_ok, not, nat_lt, nat_le, int_le, IfSome}
 use Rattle.std.specs.List.{All}
 use Rattle.std.specs.Ordering.{int_eq}
 use Rattle.std.specs.Option.{option_map, option_or}
@@ -9,31 +9,30 @@ use Rattle.std.proofs.lemmas.Bool.Decides.{nat_tests}
 use Rattle.std.proofs.lemmas.Int.{ints}
 use Rattle.bound_certificate.specs.Limits.{IsWithin}
 use Rattle.bound_certificate.specs.Problem.{Problem, need_count}
-use Rattle.bound_certificate.specs.Placement.{AreChoices, cost, fits}
+use Rattle.bound_certificate.specs.Placement.{cost, fits}
 use Rattle.bound_certificate.specs.Node.{Part, HallPart, later, is_crowded, is_hall_set, node_fault}
-use Rattle.bound_certificate.specs.Tree.{Visit, part_of, children_of, visits, below, first_fault, bound_of, branches_of, verdict_of}
+use Rattle.bound_certificate.specs.Tree.{Visit, children_of, visits, below, first_fault, bound_of, branches_of, verdict_of}
 use Rattle.bound_certificate.specs.Bound.{IsBelow}
 use Rattle.bound_certificate.specs.Formed.{branches, is_formed_at, is_formed}
 use Rattle.bound_certificate.specs.Outcome.{are_explored, is_no_better, first_fit_cost, is_bound, is_best, is_spent, tree_of, judged, judgement, is_right}
 use Rattle.bound_certificate.specs.Whole.{whole}
-use Rattle.bound_certificate.specs.Meaning.{IsPlaced, IsLeft, Shows}
+use Rattle.bound_certificate.specs.Meaning.{Shows}
 use Rattle.bound_certificate.specs.declared.tree.Tree.{Tree}
 use Rattle.bound_certificate.specs.declared.tree.Tree.TheVariants.{Hall}
 use Rattle.bound_certificate.specs.declared.verdict.Verdict.{Verdict}
 use Rattle.bound_certificate.specs.declared.outcome.Outcome.{Outcome}
 use Rattle.bound_certificate.specs.declared.outcome.Outcome.TheVariants.{Placed, Infeasible, Spent}
-use Rattle.bound_certificate.specs.declared.outcome.OutcomeFault.{OutcomeFault}
 use Rattle.bound_certificate.specs.declared.outcome.OutcomeFault.TheVariants.{Placement as DoesNotFit, Bound, Branches}
 use Rattle.bound_certificate.proofs.Trees.{visits-out, is_formed_at-out, branches-out, part_of-Hall, children_of-Hall}
 use Rattle.bound_certificate.proofs.WeakDuality.{weak_duality}
 use Rattle.bound_certificate.proofs.Meanings.{shows}
 use Rattle.placement_search.specs.declared.progress.Progress.{Progress}
-use Rattle.placement_search.specs.Kept.{IsCostOf, IsKept, reaches}
+use Rattle.placement_search.specs.Kept.{IsCostOf, reaches}
 use Rattle.placement_search.specs.Leaf.{IsCrowd}
-use Rattle.placement_search.specs.Searched.{IsSearched, IsTreeSearched}
+use Rattle.placement_search.specs.Searched.{IsTreeSearched}
 use Rattle.placement_search.specs.Shown.{IsSettled, unplaced, concluded}
 use Rattle.placement_search.proofs.Leaves.{both, later_set, length-later, hall_right, formed_hall}
-use Rattle.placement_search.proofs.Room.{roomy_nothing}
+use Rattle.placement_search.proofs.Capacities.{roomy_nothing}
 use Rattle.placement_search.proofs.Composed.{branches-visits}
 
 none_where_not_some : (bound : Option ℤ) → is_some bound ≡ false → is_none bound ≡ true

@@ -1,17 +1,16 @@
 -- The floor's own dual is right, and its value is at least the floor.
-use Rattle.std.proofs.Common.{◌≡◌, ℕ, zero, suc, ◌+◌, ◌-◌, ◌*◌, ◌≤◌, ◌<◌, Bool, true, false, cond, ◌==◌, ◌||◌, List, [], ◌∷◌, length, slice_index, slice_index_or, Option, None, Some, ℤ, pos, ◌-ℤ◌, min, inl, inr, refl, sym, ◌∙◌, ap, subst, arith, mul-zero}
-use Rattle.std.specs.Prelude.{sum, fold, int_le, nat_lt}
+use Rattle.std.proofs.Common.{◌≡◌, ℕ, zero, suc, ◌+◌, ◌-◌, ◌*◌, ◌≤◌, ◌<◌, Bool, true, false, cond, ◌==◌, ◌||◌, List, [], ◌∷◌, length, slice_index, slice_index_or, Option, None, Some, pos, ◌-ℤ◌, min, inl, inr, refl, sym, ◌∙◌, ap, arith, mul-zero}
+use Rattle.std.specs.Prelude.{fold, int_le, nat_lt}
 use Rattle.std.specs.Option.{option_or}
-use Rattle.std.proofs.lemmas.Bool.{cases_Bool, eqb-true, le-leb, eq-eqb}
+use Rattle.std.proofs.lemmas.Bool.{cases_Bool, eqb-true}
 use Rattle.std.proofs.lemmas.Bool.Decides.{nat_tests}
 use Rattle.std.proofs.lemmas.Int.{ints}
 use Rattle.std.proofs.lemmas.List.{get_or_default}
 use Rattle.bound_certificate.specs.Sums.{sum_below, first_below, has}
 use Rattle.bound_certificate.specs.Problem.{Problem, site_count, need_count, capacity, load, via}
 use Rattle.bound_certificate.specs.Placement.{AreChoices, service, cost}
-use Rattle.bound_certificate.specs.Node.{excess, dual_sum, dual_limit, is_breached, dual_breach, priced_given_by, priced_capacity_by, dual_credit, dual_debit, dual_value}
+use Rattle.bound_certificate.specs.Node.{excess, dual_sum, dual_limit, is_breached, dual_breach, priced_capacity_by, dual_credit, dual_debit, dual_value}
 use Rattle.bound_certificate.specs.Floor.{least_by, need_price, floor_by, floor}
-use Rattle.bound_certificate.specs.Prices.{ArePrices}
 use Rattle.bound_certificate.proofs.Sums.{sum_below-le, sum_below-same, sum_below-zero, sum-index}
 use Rattle.placement_search.specs.Leaf.{IsFloorDual, IsDual}
 

@@ -1,7 +1,7 @@
 -- Leaves that close a node.
-use Rattle.std.proofs.Common.{◌≡◌, ◌≢◌, ℕ, ◌+◌, ◌-◌, ◌≤◌, ◌<◌, ◌^◌, Bool, true, false, cond, ◌==◌, ◌&&◌, ◌||◌, List, [], ◌∷◌, length, slice_index, slice_index_or, Option, None, Some, ℤ, pos, refl, sym, ◌∙◌, ap, subst, arith}
+use Rattle.std.proofs.Common.{◌≡◌, ℕ, ◌+◌, ◌-◌, ◌≤◌, ◌<◌, ◌^◌, Bool, true, false, cond, ◌==◌, ◌&&◌, ◌||◌, List, [], length, slice_index, slice_index_or, Option, None, Some, ℤ, pos, refl, ◌∙◌, ap, subst, arith}
 use Rattle.std.specs.Prelude.{int_le, nat_lt, nat_le, not}
-use Rattle.std.specs.List.{All, list_all, range_with_len}
+use Rattle.std.specs.List.{All, list_all}
 use Rattle.std.specs.Option.{option_map}
 use Rattle.std.proofs.lemmas.Bool.{eq-eqb, le-leb, lt-ltb}
 use Rattle.std.proofs.lemmas.Bool.Decides.{nat_tests}
@@ -10,9 +10,9 @@ use Rattle.std.proofs.lemmas.List.FromFn.{length-range_with_len, get_or-range_wi
 use Rattle.std.proofs.lemmas.List.Sums.{list_all-from_AllPass}
 use Rattle.bound_certificate.specs.Limits.{IsWithin}
 use Rattle.bound_certificate.specs.Problem.{Problem, site_count, need_count}
-use Rattle.bound_certificate.specs.Placement.{AreChoices, cost, completed}
+use Rattle.bound_certificate.specs.Placement.{cost, completed}
 use Rattle.bound_certificate.specs.Sums.{all_below}
-use Rattle.bound_certificate.specs.Node.{Part, BranchPart, OverPart, HallPart, DualPart, FullPart, is_over, later, is_crowded, is_next_name, is_hall_set, is_dual_shape, dual_breach, dual_value, branch_fault, hall_fault, dual_fault, full_fault, over_fault, node_fault}
+use Rattle.bound_certificate.specs.Node.{Part, HallPart, DualPart, FullPart, is_over, later, is_crowded, is_next_name, is_hall_set, is_dual_shape, dual_breach, dual_value, hall_fault, dual_fault, full_fault, node_fault}
 use Rattle.bound_certificate.specs.Tree.{part_of, children_of, part_value, is_branch}
 use Rattle.bound_certificate.specs.Floor.{floor}
 use Rattle.bound_certificate.specs.Formed.{are_prices, is_formed_part}
@@ -26,7 +26,7 @@ use Rattle.placement_search.specs.declared.progress.Progress.{Progress}
 use Rattle.placement_search.specs.Kept.{IsKept, IsRoomy, reaches}
 use Rattle.placement_search.specs.Leaf.{IsCrowd, IsDual, IsLeaf, IsOpen}
 use Rattle.placement_search.proofs.Better.{le_itself}
-use Rattle.placement_search.proofs.Room.{all_below-from}
+use Rattle.placement_search.proofs.Capacities.{all_below-from}
 
 pub both : (a b : Bool) → a ≡ true → b ≡ true → (a && b) ≡ true
 both true b h k = k

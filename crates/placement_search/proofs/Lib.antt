@@ -1,5 +1,5 @@
 pub mod Better
-pub mod Room
+pub mod Capacities
 pub mod Floors
 pub mod Leaves
 pub mod Composed

@@ -1,5 +1,5 @@
 -- What a search keeps: the best placement so far, and the Branch nodes that are left.
-use Rattle.std.specs.Prelude.{◌≡◌, ◌<◌, ℕ, Bool, true, false, List, Option, None, Some, IfSome, ℤ, pos, int_le}
+use Rattle.std.specs.Prelude.{◌≡◌, ℕ, Bool, true, false, List, Option, None, Some, IfSome, ℤ, pos, int_le}
 use Rattle.bound_certificate.specs.Problem.{Problem, site_count}
 use Rattle.bound_certificate.specs.Sums.{all_below}
 use Rattle.bound_certificate.specs.Placement.{cost, fits, is_within_capacity}

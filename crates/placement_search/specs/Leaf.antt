@@ -1,5 +1,5 @@
 -- A leaf that closes a node, and a node that is still open.
-use Rattle.std.specs.Prelude.{◌≡◌, ◌<◌, ◌≤◌, ℕ, true, false, List, [], length, slice_index, All, None, Some, pos, int_le, ◌^◌, ◌-◌}
+use Rattle.std.specs.Prelude.{◌≡◌, ◌<◌, ◌≤◌, ℕ, true, false, List, [], length, slice_index, All, None, pos, int_le, ◌^◌, ◌-◌}
 use Rattle.bound_certificate.specs.Problem.{Problem, need_count, site_count}
 use Rattle.bound_certificate.specs.Node.{is_crowded, is_hall_set, later, node_fault, dual_breach, dual_value}
 use Rattle.bound_certificate.specs.Tree.{part_of, children_of, part_value, is_branch}

@@ -1,5 +1,5 @@
 -- What a search with more Branch nodes than a tree can have shows.
-use Rattle.std.specs.Prelude.{◌≡◌, ◌<◌, ℕ, List, [], IsTrue, Option, None, Some, is_none, pos, if◌then◌else◌}
+use Rattle.std.specs.Prelude.{◌≡◌, ℕ, List, [], IsTrue, Option, None, Some, is_none, pos, if◌then◌else◌}
 use Rattle.bound_certificate.specs.Problem.{Problem}
 use Rattle.bound_certificate.specs.Placement.{cost, fits}
 use Rattle.bound_certificate.specs.Tree.{visits, bound_of}

@@ -3,15 +3,22 @@
 //! - `root`: `search`, from the problem to its outcome
 //! - `branching`: the tree below a node, by recursion
 //! - `leaf`: the leaf that closes a node, if there is one
-//! - `crowd`: needs that are more than their sites have left; `prices`: the prices of a Dual leaf
+//! - `crowd`: needs that are more than their sites have left; `room`: a first look at what these have left; `prices`: the prices of a Dual leaf
+//! - `ascent`: a guess at such prices; `dive`: a guess at a good placement to begin with
 //! - `progress`: the best placement so far, and the Branch nodes that are left
 #![tactic(auto)]
 
+mod ascent;
 mod branching;
 mod crowd;
+mod dive;
 mod leaf;
 mod prices;
 mod progress;
+mod room;
 mod root;
 
 pub use root::search;
+
+#[cfg(test)]
+mod tests;

@@ -3,9 +3,12 @@ ghost use Rattle.std.specs.Prelude.{◌≡◌, ◌<◌, ◌≤◌, ◌+◌, ◌-
 ghost use Rattle.bound_certificate.specs.Problem.{site_count, need_count};
 ghost use Rattle.bound_certificate.specs.Placement.{AreChoices};
 ghost use Rattle.bound_certificate.specs.Floor.{need_price, floor_by};
+ghost use Rattle.bound_certificate.specs.Prices.{ArePrices};
+ghost use Rattle.std.specs.Bool.{OnTrue};
 ghost use Rattle.placement_search.specs.Leaf.{IsFloorDual, IsDual};
 
-use bound_certificate::{Problem, dual_limit};
+use crate::ascent::Ascent;
+use bound_certificate::{Problem, dual_breach, dual_limit, dual_value};
 use mon_io::Memory;
 use sqlite_items::Items;
 use std::alloc::Global;
@@ -26,7 +29,70 @@ pub fn prices_at(alloc: Global, problem: &Problem, choices: &[u8]) -> Result<Pri
 {
     // Its sites are within their limits, so that each via names one of them.
     let _sites = problem.sites();
-    floor_prices(alloc, problem, choices)
+    let floor = floor_prices(alloc, problem, choices)?;
+    let raised = raised_prices(alloc, problem, choices)?;
+    if is_better(problem, choices, &raised, &floor) {
+        return Ok(raised);
+    }
+    Ok(floor)
+}
+
+// A guess at prices of a greater value.
+fn raised_prices(alloc: Global, problem: &Problem, choices: &[u8]) -> Result<Prices, Memory> {
+    let mut lambda = Items::new(alloc);
+    let ascent = Ascent::new(problem, choices);
+    for need in choices.len()..usize::from(problem.need_count()) {
+        if lambda.push(ascent.level(need)).is_err() {
+            return Err(Memory);
+        }
+    }
+    let mu = free_sites(alloc, problem)?;
+    Ok(Prices { lambda, mu })
+}
+
+// Whether prices are right and of a greater value than these right ones.
+fn is_better(problem: &Problem, choices: &[u8], prices: &Prices, floor: &Prices) -> bool
+    requires choices { AreChoices problem.now choices.now }
+    requires floor { IsDual problem.now choices.now floor.now.lambda floor.now.mu }
+    ensures { OnTrue result (IsDual problem.now choices.now prices.now.lambda prices.now.mu) }
+{
+    let lambda = prices.lambda.as_slice();
+    let mu = prices.mu.as_slice();
+    if !are_prices(problem, choices, lambda, mu) {
+        return false;
+    }
+    if dual_breach(problem, choices, lambda, mu).is_some() {
+        return false;
+    }
+    let least = dual_value(
+        problem,
+        choices,
+        floor.lambda.as_slice(),
+        floor.mu.as_slice(),
+    );
+    least < dual_value(problem, choices, lambda, mu)
+}
+
+// Whether there is one lambda for each later need and one mu for each site, all within the limits.
+fn are_prices(problem: &Problem, choices: &[u8], lambda: &[u64], mu: &[u64]) -> bool
+    requires { length choices.now ≤ need_count problem.now }
+    ensures { OnTrue result (ArePrices problem.now choices.now lambda.now mu.now) }
+{
+    let later = usize::from(problem.need_count()) - choices.len();
+    let fits = lambda.len() == later && mu.len() == usize::from(problem.site_count());
+    fits && are_small(lambda) && are_small(mu)
+}
+
+// Whether all of these numbers are below 2^56.
+fn are_small(numbers: &[u64]) -> bool
+    ensures { OnTrue result (All (λ x. x < 2 ^ 56) numbers.now) }
+{
+    for number in numbers {
+        if *number >= 1 << 56 {
+            return false;
+        }
+    }
+    true
 }
 
 // The prices whose value is the node's floor.

@@ -10,6 +10,7 @@ ghost use Rattle.placement_search.specs.Searched.{IsTreeSearched};
 ghost use Rattle.placement_search.specs.Shown.{IsSettled, unplaced, concluded};
 
 use crate::branching::search_at;
+use crate::dive::dive;
 use crate::progress::Progress;
 use bound_certificate::{Numbers, Outcome, Placement, Problem, Tree, check, is_crowded, later};
 use mon_io::Memory;
@@ -37,7 +38,7 @@ pub fn search(alloc: Global, problem: &Problem, nodes: u32) -> Result<Outcome, M
     if is_crowded(problem, &[], all.as_slice()) {
         return crowded_out(alloc, &all);
     }
-    let mut progress = begin(problem, nodes);
+    let mut progress = begin(alloc, problem, nodes)?;
     let tree = search_at(alloc, problem, &Numbers::new(), &mut progress)?;
     conclude(alloc, problem, tree, &progress)
 }
@@ -54,14 +55,26 @@ fn crowded_out(alloc: Global, names: &Numbers) -> Result<Outcome, Memory>
     }
 }
 
-// The placement of first fit, if there is one, and all nodes left.
-fn begin(problem: &Problem, nodes: u32) -> Progress
-    ensures kept { IsKept problem.now result }
-    ensures left { result.left ≡ nodes }
+// The better placement of first fit's and a dive's, if there is one, and all nodes left.
+fn begin(alloc: Global, problem: &Problem, nodes: u32) -> Result<Progress, Memory>
+    ensures kept { IfOk result (IsKept problem.now) }
+    ensures left { IfOk result (λ progress. progress.left ≡ nodes) }
 {
     let mut progress = Progress::new(nodes);
     progress.offer(problem, &Numbers::new());
-    progress
+    offer_dive(alloc, problem, &mut progress)?;
+    Ok(progress)
+}
+
+// Offers a dive's placement, if it finds one.
+fn offer_dive(alloc: Global, problem: &Problem, progress: &mut Progress) -> Result<(), Memory>
+    ensures kept { IsKept problem.now progress.old → IsKept problem.now progress.new }
+    ensures left { progress.new.left ≡ progress.old.left }
+{
+    let Some(sites) = dive(problem) else {
+        return Ok(());
+    };
+    progress.offer_sites(alloc, problem, sites)
 }
 
 // What a searched tree shows with the best placement.

@@ -1,16 +1,14 @@
 -- A node by its leaf or its children, and a node's children one by one.
-use Rattle.std.proofs.Common.{◌≡◌, ◌+◌, ◌-◌, ◌<◌, ◌≤◌, true, false, [], ◌∷◌, ◌++◌, length, slice_index, slice_index_or, Some, None, sym, ◌∙◌, ap, subst, refl, arith, length-append}
+use Rattle.std.proofs.Common.{◌≡◌, ◌+◌, ◌-◌, ◌<◌, ◌≤◌, true, false, [], ◌∷◌, ◌++◌, length, slice_index, sym, ◌∙◌, ap, subst, refl, arith, length-append}
 use Rattle.std.specs.Prelude.{MatchOption}
 use Rattle.bound_certificate.specs.Problem.{need_count, via}
-use Rattle.bound_certificate.specs.Placement.{AreChoices}
 use Rattle.bound_certificate.specs.Node.{is_over}
 use Rattle.bound_certificate.specs.Sums.{has}
 use Rattle.bound_certificate.proofs.Nodes.{choices_push, has-at}
 use Rattle.placement_search.specs.declared.progress.Progress.{Progress}
-use Rattle.placement_search.specs.Kept.{IsKept, IsRoomy}
 use Rattle.placement_search.specs.Leaf.{IsLeaf, IsOpen}
-use Rattle.placement_search.specs.Searched.{IsTreeSearched, AreSearched}
-use Rattle.placement_search.proofs.Room.{roomy_push}
+use Rattle.placement_search.specs.Searched.{AreSearched}
+use Rattle.placement_search.proofs.Capacities.{roomy_push}
 use Rattle.placement_search.proofs.Composed.{pushed_ok, kept_on, leaf_searched, over_searched, branch_searched, child_searched, children_nothing}
 use Rattle.placement_search.proofs.branching.+branching.Goals as goal
 

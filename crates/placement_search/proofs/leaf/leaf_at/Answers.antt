@@ -1,11 +1,11 @@
 -- The node is full, its later needs are crowded, or a dual closes it.
-use Rattle.std.proofs.Common.{◌≡◌, ◌≢◌, ◌<◌, true, ◌||◌, ◌==◌, length, Some, sym, ◌∙◌, arith}
+use Rattle.std.proofs.Common.{◌≡◌, ◌<◌, true, ◌||◌, ◌==◌, length, Some, sym, ◌∙◌, arith}
 use Rattle.std.proofs.lemmas.Bool.Decides.{nat_tests}
 use Rattle.bound_certificate.specs.Problem.{need_count}
 use Rattle.bound_certificate.specs.Node.{dual_value}
 use Rattle.placement_search.specs.Kept.{reaches}
 use Rattle.placement_search.specs.Leaf.{IsCrowd, IsDual}
-use Rattle.placement_search.proofs.Leaves.{full_leaf, hall_leaf, dual_leaf, still_open}
+use Rattle.placement_search.proofs.Leaves.{full_leaf, hall_leaf, dual_leaf}
 use Rattle.placement_search.proofs.leaf.leaf_at.Goals as goal
 
 pub returns-then-len-from : goal.returns-then-len-from

@@ -1,7 +1,10 @@
-use Rattle.bound_certificate.proofs.Nodes.{if_ok}
 use Rattle.placement_search.proofs.Floors.{floor_dual}
 use Rattle.placement_search.proofs.prices.prices_at.Goals as goal
 
+pub is_better-requires-clause-floor : goal.is_better-requires-clause-floor
+is_better-requires-clause-floor c =
+    floor_dual c.args.problem.now c.args.choices.now c.in_ok-floor.floor.lambda c.in_ok-floor.floor.mu c.requires c.in_ok-floor.ensures
+
 pub returns : goal.returns
 returns c =
-    if_ok c.floor_prices.result (λ prices is. floor_dual c.args.problem.now c.args.choices.now prices.lambda prices.mu c.requires is) c.floor_prices.ensures
+    floor_dual c.args.problem.now c.args.choices.now c.in_ok-floor.floor.lambda c.in_ok-floor.floor.mu c.requires c.in_ok-floor.ensures

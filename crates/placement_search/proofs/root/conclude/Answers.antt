@@ -1,4 +1,4 @@
-use Rattle.std.proofs.Common.{◌≡◌, [], ◌∙◌, sym, ap, refl}
+use Rattle.std.proofs.Common.{refl}
 use Rattle.placement_search.specs.Shown.{concluded}
 use Rattle.placement_search.proofs.root.conclude.Goals as goal
 

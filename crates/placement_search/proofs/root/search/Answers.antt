@@ -1,20 +1,17 @@
 -- A crowd of all needs settles it; else the searched tree shows what is concluded.
-use Rattle.std.proofs.Common.{◌≡◌, ◌<◌, ◌≤◌, true, [], length, None, sym, ◌∙◌, ap, subst, arith}
+use Rattle.std.proofs.Common.{◌≡◌, ◌<◌, [], None, sym, ◌∙◌, ap, subst}
 use Rattle.bound_certificate.specs.Problem.{need_count}
-use Rattle.bound_certificate.specs.Node.{is_crowded, later}
 use Rattle.bound_certificate.specs.Tree.{visits, first_fault}
 use Rattle.bound_certificate.specs.Formed.{is_formed}
-use Rattle.bound_certificate.specs.Outcome.{tree_of, is_right}
-use Rattle.bound_certificate.specs.Whole.{whole}
+use Rattle.bound_certificate.specs.Outcome.{tree_of}
 use Rattle.bound_certificate.specs.declared.tree.Tree.{Tree}
 use Rattle.bound_certificate.specs.declared.outcome.Outcome.{Outcome}
 use Rattle.bound_certificate.specs.declared.outcome.Outcome.TheVariants.{Infeasible}
 use Rattle.bound_certificate.specs.declared.tree.Tree.TheVariants.{Hall}
 use Rattle.bound_certificate.proofs.Nodes.{if_ok}
-use Rattle.placement_search.specs.Leaf.{IsCrowd}
 use Rattle.placement_search.specs.Searched.{IsTreeSearched}
 use Rattle.placement_search.specs.Shown.{IsSettled, concluded}
-use Rattle.placement_search.proofs.Room.{roomy_nothing}
+use Rattle.placement_search.proofs.Capacities.{roomy_nothing}
 use Rattle.placement_search.proofs.Conclusions.{all_crowd, crowd_right, crowd_faultless, crowd_formed, concluded_right, tree_of-concluded, formed_searched, right_settled}
 use Rattle.placement_search.proofs.root.search.Goals as goal
 
@@ -45,21 +42,21 @@ search_at-requires-clause-room c = rw c.new.ensures.value (roomy_nothing c.args.
 
 pub conclude-requires-clause-formed : goal.conclude-requires-clause-formed
 conclude-requires-clause-formed c =
-    formed_searched c.args.problem.now c.args.nodes c.begin-progress.result c.search_at.new.progress c.in_ok-tree.tree c.begin-progress.ensures.left c.requires.few (rw c.new.ensures.value at c.in_ok-tree.ensures)
+    formed_searched c.args.problem.now c.args.nodes c.in_ok-progress.progress c.search_at.new.progress c.in_ok-tree.tree c.in_ok-progress.ensures.left c.requires.few (rw c.new.ensures.value at c.in_ok-tree.ensures)
 
 pub returns-clause-right : goal.returns-clause-right
 returns-clause-right c =
     let p = c.args.problem.now in
-    let searched : IsTreeSearched p [] c.begin-progress.result c.search_at.new.progress c.in_ok-tree.tree = rw c.new.ensures.value at c.in_ok-tree.ensures in
+    let searched : IsTreeSearched p [] c.in_ok-progress.progress c.search_at.new.progress c.in_ok-tree.tree = rw c.new.ensures.value at c.in_ok-tree.ensures in
     if_ok c.conclude.result
-    (λ outcome is. rw is (concluded_right p c.args.nodes c.begin-progress.result c.search_at.new.progress c.in_ok-tree.tree c.sites-sites.ensures.within c.begin-progress.ensures.left searched))
+    (λ outcome is. rw is (concluded_right p c.args.nodes c.in_ok-progress.progress c.search_at.new.progress c.in_ok-tree.tree c.sites-sites.ensures.within c.in_ok-progress.ensures.left searched))
     c.conclude.ensures
 
 pub returns-clause-formed : goal.returns-clause-formed
 returns-clause-formed c =
     let p = c.args.problem.now in
-    let searched : IsTreeSearched p [] c.begin-progress.result c.search_at.new.progress c.in_ok-tree.tree = rw c.new.ensures.value at c.in_ok-tree.ensures in
-    let formed = formed_searched p c.args.nodes c.begin-progress.result c.search_at.new.progress c.in_ok-tree.tree c.begin-progress.ensures.left c.requires.few searched in
+    let searched : IsTreeSearched p [] c.in_ok-progress.progress c.search_at.new.progress c.in_ok-tree.tree = rw c.new.ensures.value at c.in_ok-tree.ensures in
+    let formed = formed_searched p c.args.nodes c.in_ok-progress.progress c.search_at.new.progress c.in_ok-tree.tree c.in_ok-progress.ensures.left c.requires.few searched in
     if_ok c.conclude.result
     (λ outcome is. ap (λ (outcome : Outcome). is_formed (tree_of outcome)) is
     ∙ ap is_formed (tree_of-concluded p c.search_at.new.progress.cost c.search_at.new.progress.sites c.in_ok-tree.tree) ∙ formed)
@@ -69,9 +66,9 @@ pub returns-clause-settled : goal.returns-clause-settled
 returns-clause-settled c few =
     let p = c.args.problem.now in
     let after = c.search_at.new.progress in
-    let searched : IsTreeSearched p [] c.begin-progress.result after c.in_ok-tree.tree = rw c.new.ensures.value at c.in_ok-tree.ensures in
+    let searched : IsTreeSearched p [] c.in_ok-progress.progress after c.in_ok-tree.tree = rw c.new.ensures.value at c.in_ok-tree.ensures in
     let shown = concluded p after.cost after.sites c.in_ok-tree.tree in
-    let right = concluded_right p c.args.nodes c.begin-progress.result after c.in_ok-tree.tree c.sites-sites.ensures.within c.begin-progress.ensures.left searched in
+    let right = concluded_right p c.args.nodes c.in_ok-progress.progress after c.in_ok-tree.tree c.sites-sites.ensures.within c.in_ok-progress.ensures.left searched in
     let faultless : first_fault p 0 (visits p (tree_of shown) []) ≡ None =
     ap (λ (tree : Tree). first_fault p 0 (visits p tree [])) (tree_of-concluded p after.cost after.sites c.in_ok-tree.tree) ∙ searched.nodes.faultless in
     let settled : IsSettled p shown = right_settled p c.args.nodes shown c.sites-sites.ensures.within faultless right few in

@@ -3,7 +3,7 @@ use Rattle.std.proofs.Common.{◌≡◌, ◌-◌, length, Some, sym, ◌∙◌, 
 use Rattle.bound_certificate.specs.Problem.{need_count}
 use Rattle.bound_certificate.specs.Placement.{cost, completed}
 use Rattle.placement_search.specs.Kept.{IsCostOf}
-use Rattle.placement_search.proofs.Room.{completed_fits, completion_beaten, no_completion, best_stays}
+use Rattle.placement_search.proofs.Capacities.{completed_fits, completion_beaten, no_completion, best_stays}
 use Rattle.placement_search.proofs.progress.Progress.offer.Goals as goal
 
 pub returns-in_default-clause-beaten : goal.returns-in_default-clause-beaten

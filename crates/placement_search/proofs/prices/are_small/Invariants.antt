@@ -1,0 +1,6 @@
+-- Those so far are small.
+use Rattle.std.proofs.Common.{ℕ, ◌<◌, ◌^◌, get_or}
+use Rattle.placement_search.proofs.prices.are_small.Given as goal
+
+abbrev pub invariant-loop-number : goal.invariant-loop-number
+invariant-loop-number l = (k : ℕ) → k < l.number-index → get_or l.numbers k 0 < 2 ^ 56

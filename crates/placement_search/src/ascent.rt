@@ -1,0 +1,135 @@
+//! A guess at the prices of a dual: lambdas raised as long as the sites' limits allow it. Nothing is claimed of
+//! them here; what takes them tests them.
+ghost use Rattle.std.specs.Prelude.{◌<◌, ◌≤◌};
+ghost use Rattle.bound_certificate.specs.Problem.{site_count, need_count};
+
+use bound_certificate::{Problem, dual_limit};
+
+/// How often each lambda is raised at most.
+const ROUNDS: u32 = 64;
+
+/// The lambda of each need, and what is left of each site's limit.
+#[derive(Drop)]
+pub struct Ascent {
+    levels: [u64; 64],
+    slack: [u64; 32],
+}
+
+impl Ascent {
+    /// The raised lambdas of the needs without a choice. Each starts at the least that its need costs. In each
+    /// round each is raised to the next cost of its need at a site, or as far as the least limit of the sites
+    /// that cost no more than it.
+    pub fn new(problem: &Problem, choices: &[u8]) -> Ascent {
+        let mut ascent = Ascent {
+            levels: least_levels(problem),
+            slack: limits(problem, choices),
+        };
+        for _ in 0..ROUNDS {
+            if !ascent.raise_all(problem, choices.len()) {
+                break;
+            }
+        }
+        ascent
+    }
+
+    /// The lambda of a need.
+    pub fn level(&self, need: usize) -> u64
+        requires { need < 64 }
+    {
+        self.levels[need]
+    }
+
+    /// The sum of the lambdas of the needs from this one on.
+    pub fn total(&self, problem: &Problem, from: usize) -> u64 {
+        let mut sum: u64 = 0;
+        for need in from..usize::from(problem.need_count()) {
+            sum = sum.saturating_add(self.levels[need]);
+        }
+        sum
+    }
+
+    // Raises each lambda once; whether one rose.
+    fn raise_all(&mut self, problem: &Problem, from: usize) -> bool {
+        let mut has_risen = false;
+        for need in from..usize::from(problem.need_count()) {
+            if self.raise(problem, need) {
+                has_risen = true;
+            }
+        }
+        has_risen
+    }
+
+    // Raises the lambda of a need; whether it rose.
+    fn raise(&mut self, problem: &Problem, need: usize) -> bool
+        requires { need < need_count problem.now }
+    {
+        let step = self.step(problem, need);
+        if step == 0 {
+            return false;
+        }
+        self.press(problem, need, step);
+        let _count = problem.need_count();
+        self.levels[need] = self.levels[need].saturating_add(step);
+        true
+    }
+
+    // How far the lambda of a need can rise: to the next cost, and as the sites' limits allow.
+    fn step(&self, problem: &Problem, need: usize) -> u64
+        requires { need < need_count problem.now }
+    {
+        let _count = problem.site_count();
+        let level = self.levels[need];
+        let mut step = u64::MAX;
+        for site in problem.via(need) {
+            let price = problem.service(usize::from(*site), need);
+            if level < price {
+                step = step.min(price - level);
+            } else {
+                step = step.min(self.slack[usize::from(*site)]);
+            }
+        }
+        step
+    }
+
+    // Takes a step off the limits of the sites where the need costs no more than its lambda.
+    fn press(&mut self, problem: &Problem, need: usize, step: u64)
+        requires { need < need_count problem.now }
+    {
+        let _count = problem.site_count();
+        let level = self.levels[need];
+        for site in problem.via(need) {
+            if problem.service(usize::from(*site), need) <= level {
+                let left = self.slack[usize::from(*site)];
+                self.slack[usize::from(*site)] = left.saturating_sub(step);
+            }
+        }
+    }
+}
+
+// The least that each need costs at a site of its via.
+fn least_levels(problem: &Problem) -> [u64; 64] {
+    let mut levels = [0; 64];
+    for need in 0..usize::from(problem.need_count()) {
+        levels[need] = least_service(problem, need);
+    }
+    levels
+}
+
+fn least_service(problem: &Problem, need: usize) -> u64
+    requires { need < need_count problem.now }
+{
+    let mut least = u64::MAX;
+    for site in problem.via(need) {
+        least = least.min(problem.service(usize::from(*site), need));
+    }
+    least
+}
+
+// What opening each site would cost beside the choices.
+fn limits(problem: &Problem, choices: &[u8]) -> [u64; 32] {
+    let mut limits = [0; 32];
+    for site in 0..problem.site_count() {
+        limits[usize::from(site)] = u64::from(dual_limit(problem, choices, site));
+    }
+    limits
+}
