@@ -13,3 +13,7 @@ pub mod WeakDuality
 pub mod Exploring
 pub mod Wholes
 pub mod Meanings
+pub mod Written
+pub mod FloorLaw
+pub mod FloorDual
+pub mod FirstFit

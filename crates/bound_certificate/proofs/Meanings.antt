@@ -23,6 +23,7 @@ use Rattle.bound_certificate.specs.declared.outcome.OutcomeFault.TheVariants.{Pl
 use Rattle.bound_certificate.proofs.Prices.{if_not}
 use Rattle.bound_certificate.proofs.Exploring.{are_explored-out}
 use Rattle.bound_certificate.proofs.WeakDuality.{weak_duality}
+use Rattle.bound_certificate.proofs.FloorLaw.{bound-floor}
 use Rattle.bound_certificate.proofs.Wholes.{branches_of-le}
 
 -- answers of a test
@@ -109,6 +110,7 @@ placed_shows p n sites tree verdict within none is placed best =
       placed = placed;
       no_worse = root_beaten p (Some c) (first_fit_cost p) tree parts.0;
       below = below;
+      floored = rw bound (bound-floor p (Some c) (first_fit_cost p) tree within none parts.0);
       closed = closed;
       least = λ few. (tight few, λ placement fit. cost_le verdict.bound c (cost p placement) (tight few) (below placement fit));
     }
@@ -124,6 +126,7 @@ spent_shows p n tree verdict within none is spent =
     let all : branches_of vs ≡ n = eqb-true (branches_of vs) n inner.1 in
     record {
       below = λ placement fit. rw bound (weak_duality p tree placement within none fit);
+      floored = rw bound (bound-floor p None None tree within none parts.0);
       spent = count ∙ all;
       few = omega (arith, all, branches_of-le p tree none);
       no_first_fit = unmapped (cost p) (first_fit p) (no_cost (first_fit_cost p) (root_beaten p None None tree parts.0));

@@ -12,3 +12,5 @@ pub mod Sums
 pub mod Tree
 pub mod Meaning
 pub mod Whole
+pub mod Bytes
+pub mod Text

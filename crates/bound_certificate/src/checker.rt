@@ -95,7 +95,7 @@ fn check_children(
 
 /// The children of a node: none where it is no Branch.
 pub fn children(tree: &Tree) -> &[Tree]
-    ensures { result.now ≡ children_of tree.now }
+    ensures value { result.now ≡ children_of tree.now }
 {
     match tree {
         Tree::Branch(children) => children.as_slice(),

@@ -109,7 +109,7 @@ pub fn cost_of(problem: &Problem, choices: &[u8]) -> u64
 pub fn is_within_capacity(problem: &Problem, choices: &[u8], site: u8) -> bool
     requires few { length choices.now ≤ need_count problem.now }
     requires known { site < site_count problem.now }
-    ensures { result ≡ is_within_capacity problem.now choices.now site }
+    ensures value { result ≡ is_within_capacity problem.now choices.now site }
 {
     given(problem, choices, site) <= u64::from(problem.capacity(usize::from(site)))
 }

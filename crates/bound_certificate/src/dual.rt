@@ -15,7 +15,7 @@ use crate::numbers::has;
 #[tactic(auto, unfolding(crate::specs::Node::is_dual_shape))]
 pub fn is_dual_shape(problem: &Problem, choices: &[u8], lambda: &[u64], mu: &[u64]) -> bool
     requires { length choices.now ≤ need_count problem.now }
-    ensures { result ≡ is_dual_shape problem.now choices.now lambda.now mu.now }
+    ensures value { result ≡ is_dual_shape problem.now choices.now lambda.now mu.now }
 {
     lambda.len() == usize::from(problem.need_count()) - choices.len()
         && mu.len() == usize::from(problem.site_count())
@@ -26,7 +26,7 @@ pub fn is_dual_shape(problem: &Problem, choices: &[u8], lambda: &[u64], mu: &[u6
 #[tactic(auto, unfolding(crate::specs::Node::dual_breach))]
 pub fn dual_breach(problem: &Problem, choices: &[u8], lambda: &[u64], mu: &[u64]) -> Option<u8>
     requires { ArePrices problem.now choices.now lambda.now mu.now }
-    ensures { result ≡ dual_breach problem.now choices.now lambda.now mu.now }
+    ensures value { result ≡ dual_breach problem.now choices.now lambda.now mu.now }
 {
     for site in 0..problem.site_count() {
         if is_breached(problem, choices, lambda, mu, site) {
@@ -41,7 +41,7 @@ pub fn dual_breach(problem: &Problem, choices: &[u8], lambda: &[u64], mu: &[u64]
 pub fn dual_value(problem: &Problem, choices: &[u8], lambda: &[u64], mu: &[u64]) -> i128
     requires choices { AreChoices problem.now choices.now }
     requires prices { ArePrices problem.now choices.now lambda.now mu.now }
-    ensures { result ≡ dual_value problem.now choices.now lambda.now mu.now }
+    ensures value { result ≡ dual_value problem.now choices.now lambda.now mu.now }
 {
     difference(
         dual_credit(problem, choices, lambda, mu),
@@ -71,7 +71,7 @@ fn is_breached(problem: &Problem, choices: &[u8], lambda: &[u64], mu: &[u64], si
 #[tactic(auto, unfolding(crate::specs::Node::dual_limit))]
 pub fn dual_limit(problem: &Problem, choices: &[u8], site: u8) -> u32
     requires { site < site_count problem.now }
-    ensures { result ≡ dual_limit problem.now choices.now site }
+    ensures value { result ≡ dual_limit problem.now choices.now site }
 {
     if has(choices, site) {
         0

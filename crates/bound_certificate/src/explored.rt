@@ -31,7 +31,7 @@ pub fn is_explored(problem: &Problem, choices: &Numbers, tree: &Tree, rule: Rule
     requires choices { AreChoices problem.now choices.now }
     requires formed { IsTrue (is_formed_part (length choices.now) (part_of tree.now)) }
     requires right { node_fault problem.now choices.now (part_of tree.now) ≡ None }
-    ensures { result ≡ is_explored problem.now rule.best rule.ceiling
+    ensures value { result ≡ is_explored problem.now rule.best rule.ceiling
         (record { choices = choices.now; part = part_of tree.now }) }
 {
     is_beaten(problem, choices, rule.best)

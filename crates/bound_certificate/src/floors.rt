@@ -13,7 +13,7 @@ use crate::dual::dual_limit;
 #[tactic(auto, unfolding(crate::specs::Floor::floor))]
 pub fn floor_of(problem: &Problem, choices: &[u8]) -> u64
     requires { AreChoices problem.now choices.now }
-    ensures { result ≡ floor problem.now choices.now }
+    ensures value { result ≡ floor problem.now choices.now }
 {
     let mut sum = cost_of(problem, choices);
     let later = usize::from(problem.need_count()) - choices.len();

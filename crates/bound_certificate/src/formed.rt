@@ -12,7 +12,7 @@ use crate::checker::children;
 /// up to 64 needs, each below 64, Duals of up to 64 lambdas and 32 mus, all below 2^56. Takes no memory.
 #[tactic(auto, unfolding(crate::specs::Formed::is_formed))]
 pub fn is_formed(tree: &Tree) -> bool
-    ensures { result ≡ is_formed tree.now }
+    ensures value { result ≡ is_formed tree.now }
 {
     is_formed_at(tree, 0) && branches_up_to(tree, 4097) <= 4096
 }

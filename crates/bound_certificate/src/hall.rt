@@ -13,7 +13,7 @@ use crate::numbers::{Numbers, has};
 pub fn is_crowded(problem: &Problem, choices: &[u8], names: &[u8]) -> bool
     requires few { length choices.now ≤ need_count problem.now }
     requires known { All (λ need. need < need_count problem.now) names.now }
-    ensures { result ≡ is_crowded problem.now choices.now names.now }
+    ensures value { result ≡ is_crowded problem.now choices.now names.now }
 {
     reached_capacity(problem, names)
         < named_load(problem, names) + reached_given(problem, choices, names)

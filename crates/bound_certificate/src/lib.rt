@@ -9,34 +9,39 @@
 //! - `hall`, `dual`, `node`: the test of one node; `tally`, `checker`: `check`, of a whole tree, which gives a
 //!   `verdict`
 //! - `outcome`, `floors`, `explored`, `judge`: what a search found, and `check_outcome`, which judges it
+//! - `text`, `bytes`: a tree as text and as bytes
 //!
 //! `specs/Placement.antt` says cost and fitting as sums over needs and sites, `specs/Node.antt` when a node is
 //! wrong, `specs/Tree.antt` a tree as the list of its nodes in preorder, and `specs/Outcome.antt` which outcome is
-//! right. `check` carries weak duality: no placement that fits costs less than the bound. Only `first_fit` takes
-//! memory.
+//! right. `check` carries weak duality: no placement that fits costs less than the bound. Only `first_fit`,
+//! `tree_text` and `tree_bytes` take memory. The modules that are public have the tests of one node, for a search
+//! that makes trees.
 #![tactic(auto)]
 
+mod bytes;
 mod checker;
-mod choices;
-mod completion;
-mod dual;
-mod explored;
-mod floors;
+pub mod choices;
+pub mod completion;
+pub mod dual;
+pub mod explored;
+pub mod floors;
 mod formed;
-mod hall;
+pub mod hall;
 mod judge;
 mod need;
-mod node;
-mod numbers;
+pub mod node;
+pub mod numbers;
 mod outcome;
 mod placement;
 mod problem;
 mod site;
 mod tally;
+mod text;
 mod tree;
 mod verdict;
 mod within;
 
+pub use bytes::tree_bytes;
 pub use checker::check;
 pub use choices::cost_of;
 pub use completion::complete;
@@ -51,6 +56,7 @@ pub use outcome::{Outcome, OutcomeFault};
 pub use placement::{Placement, cost, first_fit, fits};
 pub use problem::Problem;
 pub use site::Site;
+pub use text::tree_text;
 pub use tree::Tree;
 pub use verdict::{TreeFault, TreeWhy, Verdict};
 pub use within::is_within;

@@ -16,7 +16,7 @@ use crate::{Problem, Tree};
 pub fn node_fault(problem: &Problem, choices: &[u8], tree: &Tree) -> Option<TreeWhy>
     requires choices { AreChoices problem.now choices.now }
     requires formed { IsTrue (is_formed_part (length choices.now) (part_of tree.now)) }
-    ensures { result ≡ node_fault problem.now choices.now (part_of tree.now) }
+    ensures value { result ≡ node_fault problem.now choices.now (part_of tree.now) }
 {
     let is_over = is_over(problem, choices);
     match tree {
@@ -60,7 +60,7 @@ fn unless_over(is_over: bool, fault: Option<TreeWhy>) -> Option<TreeWhy>
 #[tactic(auto, unfolding(crate::specs::Node::is_over))]
 pub fn is_over(problem: &Problem, choices: &[u8]) -> bool
     requires { AreChoices problem.now choices.now }
-    ensures { result ≡ is_over problem.now choices.now }
+    ensures value { result ≡ is_over problem.now choices.now }
 {
     if choices.is_empty() {
         return false;

@@ -24,7 +24,7 @@ impl Model for Numbers {
 impl Numbers {
     /// No number.
     pub fn new() -> Numbers
-        ensures { result ≡ [] }
+        ensures value { result ≡ [] }
     {
         Numbers {
             items: [0; 64],
@@ -50,7 +50,7 @@ impl Numbers {
 
     /// The same numbers once more.
     pub fn copied(&self) -> Numbers
-        ensures { result ≡ self.now }
+        ensures value { result ≡ self.now }
     {
         Numbers {
             items: self.items,
@@ -61,7 +61,7 @@ impl Numbers {
     /// Puts a number at the end.
     pub fn push(&mut self, number: u8)
         requires { length self.old < 64 }
-        ensures { self.new ≡ self.old ++ number ∷ [] }
+        ensures value { self.new ≡ self.old ++ number ∷ [] }
     {
         self.items[self.len] = number;
         self.len += 1;
@@ -70,7 +70,7 @@ impl Numbers {
     /// These numbers with one more at the end.
     pub fn with(&self, number: u8) -> Numbers
         requires { length self.now < 64 }
-        ensures { result ≡ self.now ++ number ∷ [] }
+        ensures value { result ≡ self.now ++ number ∷ [] }
     {
         let mut items = self.items;
         items[self.len] = number;
@@ -84,7 +84,7 @@ impl Numbers {
 /// Whether a number stands in the list.
 #[tactic(auto, unfolding(crate::specs::Sums::has))]
 pub fn has(numbers: &[u8], number: u8) -> bool
-    ensures { result ≡ has numbers.now number }
+    ensures value { result ≡ has numbers.now number }
 {
     numbers.iter().any(|other| *other == number)
 }

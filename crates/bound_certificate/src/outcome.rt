@@ -33,7 +33,7 @@ pub enum OutcomeFault {
 impl Outcome {
     /// The tree that shows it.
     pub fn tree(&self) -> &Tree
-        ensures { result.now ≡ tree_of self.now }
+        ensures value { result.now ≡ tree_of self.now }
     {
         match self {
             Outcome::Placed { placement: _, tree } => tree,

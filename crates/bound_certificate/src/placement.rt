@@ -1,5 +1,5 @@
 //! One site for each need.
-ghost use Rattle.std.specs.Prelude.{◌≡◌, ◌≤◌, ◌<◌, IsTrue, length, pos, IfOk, MatchOption, map};
+ghost use Rattle.std.specs.Prelude.{◌≡◌, ◌≤◌, ◌<◌, IsTrue, length, pos, IfOk, IfSome};
 ghost use Rattle.std.specs.Bool.{OnTrue};
 ghost use Rattle.std.specs.Option.{option_map};
 ghost use Rattle.bound_certificate.specs.Problem.{site_count, need_count};
@@ -36,16 +36,17 @@ pub fn fits(problem: &Problem, placement: &Placement) -> bool
 /// cost per unit. There is one site of its via for each need. Takes no memory.
 pub fn cost(problem: &Problem, placement: &Placement) -> i128
     requires { IsTrue (is_placement problem.now placement.now.sites) }
-    ensures { result ≡ pos (cost problem.now placement.now.sites) }
+    ensures value { result ≡ pos (cost problem.now placement.now.sites) }
 {
     i128::from(cost_of(problem, placement.sites.as_slice()))
 }
 
-/// The placement that gives each need, in order, to the first site of its via with room left. None exactly
-/// where some need finds none.
+/// The placement that gives each need, in order, to the first site of its via with room left. It fits. None
+/// exactly where some need finds none.
 #[tactic(auto, unfolding(crate::specs::Placement::first_fit))]
 pub fn first_fit(alloc: Global, problem: &Problem) -> Result<Option<Placement>, Memory>
-    ensures { IfOk result (λ found. option_map (λ placement. placement.sites) found ≡ first_fit problem.now) }
+    ensures value { IfOk result (λ found. option_map (λ placement. placement.sites) found ≡ first_fit problem.now) }
+    ensures fits { IfOk result (λ found. IfSome found (λ placement. IsTrue (fits problem.now placement.sites))) }
 {
     let Some(choices) = complete(problem, &Numbers::new()) else {
         return Ok(None);

@@ -78,7 +78,7 @@ impl Problem {
     #[tactic(auto, unfolding(crate::specs::Problem::capacity))]
     pub fn capacity(&self, site: usize) -> u32
         requires { site < site_count self.now }
-        ensures { result ≡ capacity self.now site }
+        ensures value { result ≡ capacity self.now site }
     {
         self.sites[site].capacity
     }
@@ -88,7 +88,7 @@ impl Problem {
     #[tactic(auto, unfolding(crate::specs::Problem::opening))]
     pub fn opening(&self, site: usize) -> u32
         requires { site < site_count self.now }
-        ensures { result ≡ opening self.now site }
+        ensures value { result ≡ opening self.now site }
     {
         self.sites[site].opening
     }

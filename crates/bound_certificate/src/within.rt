@@ -7,7 +7,7 @@ use crate::{Need, Site};
 
 /// Whether these sites and needs are within the limits of a problem. Takes no memory.
 pub fn is_within(sites: &[Site], needs: &[Need]) -> bool
-    ensures { IsTrue result ↔ IsWithin sites.now needs.now }
+    ensures value { IsTrue result ↔ IsWithin sites.now needs.now }
 {
     let sites_fit = !sites.is_empty() && sites.len() <= 32;
     let needs_fit = !needs.is_empty() && needs.len() <= 64;

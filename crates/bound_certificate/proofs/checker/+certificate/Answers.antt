@@ -26,19 +26,19 @@ check_at-own_verdict-requires-clause-formed t c =
 pub check_at-returns-in-Some-clause-err : goal.check_at-returns-in-Some-clause-err
 check_at-returns-in-Some-clause-err t c =
     let wrong : node_fault c.args.problem.now c.args.choices.now (part_of c.args.tree.now) ≡ Some c.in-Some.why =
-    sym (rw c.as_slice.ensures.value at c.node_fault.ensures) ∙ c.in-Some.is in
+    sym (rw c.as_slice.ensures.value at c.node_fault.ensures.value) ∙ c.in-Some.is in
     first_fault_here c.args.problem.now c.args.tree.now c.args.choices.now c.args.number c.in-Some.why wrong
 
 pub check_at-check_children-requires : goal.check_at-check_children-requires
 check_at-check_children-requires t c =
     let right : node_fault c.args.problem.now c.args.choices.now (part_of c.args.tree.now) ≡ None =
-    sym (rw c.as_slice.ensures.value at c.node_fault.ensures) ∙ c.in_default.is in
+    sym (rw c.as_slice.ensures.value at c.node_fault.ensures.value) ∙ c.in_default.is in
     let parts = is_formed_at-parts c.args.tree.now (length c.args.choices.now) c.requires.formed in
     let fan = fan_right c.args.problem.now c.args.choices.now (part_of c.args.tree.now) c.requires.choices right in
     let size = fan-part_of c.args.tree.now in
     let branches : c.own_verdict.result.branches ≤ 1 =
     rw c.own_verdict.ensures (part_branches c.args.problem.now c.as_slice-2.result.now (part_of c.args.tree.now)) in
-    rw c.children.ensures (
+    rw c.children.ensures.value (
       omega (arith, c.decreases, nodes-out c.args.tree.now),
       (
         c.requires.choices,
@@ -61,19 +61,19 @@ check_at-check_children-requires t c =
 pub check_at-returns-clause-ok : goal.check_at-returns-clause-ok
 check_at-returns-clause-ok t c =
     let right : node_fault c.args.problem.now c.args.choices.now (part_of c.args.tree.now) ≡ None =
-    sym (rw c.as_slice.ensures.value at c.node_fault.ensures) ∙ c.in_default.is in
+    sym (rw c.as_slice.ensures.value at c.node_fault.ensures.value) ∙ c.in_default.is in
     let own : Tally = record { verdict = c.own_verdict.result; nodes = 1 } in
     if_ok c.check_children.result
     (λ tally adds. adds_tallied c.args.problem.now c.args.tree.now c.args.choices.now c.args.number own tally right (rw c.as_slice-2.ensures.value at c.own_verdict.ensures) refl adds)
-    (rw c.children.ensures at c.check_children.ensures.ok)
+    (rw c.children.ensures.value at c.check_children.ensures.ok)
 
 pub check_at-returns-clause-err : goal.check_at-returns-clause-err
 check_at-returns-clause-err t c =
     let right : node_fault c.args.problem.now c.args.choices.now (part_of c.args.tree.now) ≡ None =
-    sym (rw c.as_slice.ensures.value at c.node_fault.ensures) ∙ c.in_default.is in
+    sym (rw c.as_slice.ensures.value at c.node_fault.ensures.value) ∙ c.in_default.is in
     if_err c.check_children.result
     (λ fault fails. first_fault_below c.args.problem.now c.args.tree.now c.args.choices.now c.args.number right ∙ fails)
-    (rw c.children.ensures at c.check_children.ensures.err)
+    (rw c.children.ensures.value at c.check_children.ensures.err)
 
 -- the child at hand comes before those that are left
 split : (ts : List Tree) (n : ℕ) (child : Tree) → n < length ts → child ≡ get_or ts n child → drop n ts ≡ child ∷ drop (n + 1) ts

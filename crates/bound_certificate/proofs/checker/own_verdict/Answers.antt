@@ -39,7 +39,7 @@ returns-in-Dual c =
     let fits : FitsSigned w128 c.dual_value-value.result = search rules in
     let part : part_of c.args.tree.now ≡ DualPart c.in-Dual.lambda c.in-Dual.mu = ap part_of c.in-Dual.is ∙ part_of-Dual c.in-Dual.lambda c.in-Dual.mu in
     let value : c.dual_value-value.result ≡ dual_value c.args.problem.now c.args.choices.now c.in-Dual.lambda c.in-Dual.mu =
-    rw (c.as_slice.ensures, c.as_slice-in-Dual.ensures) at c.dual_value-value.ensures in
+    rw (c.as_slice.ensures, c.as_slice-in-Dual.ensures) at c.dual_value-value.ensures.value in
     subst (λ (part : Part). valued (to_z w128 (of_z w128 c.dual_value-value.result)) false ≡ part_verdict c.args.problem.now c.args.choices.now part) (sym part)
     (ap (λ (value : ℤ). valued value false) (to_z-of_z fits ∙ value))
 

@@ -14,9 +14,9 @@ all_branches_up_to-branches_up_to-requires t c =
 
 pub branches_up_to-all_branches_up_to-requires : goal.branches_up_to-all_branches_up_to-requires
 branches_up_to-all_branches_up_to-requires t c =
-    rw c.children.ensures (omega (arith, c.decreases, nodes-out c.args.tree.now), c.requires)
+    rw c.children.ensures.value (omega (arith, c.decreases, nodes-out c.args.tree.now), c.requires)
 
 pub branches_up_to-returns : goal.branches_up_to-returns
 branches_up_to-returns t c =
-    let all : c.all_branches_up_to.result ≡ min (sum (map branches (children_of c.args.tree.now))) c.args.limit = rw c.children.ensures at c.all_branches_up_to.ensures in
+    let all : c.all_branches_up_to.result ≡ min (sum (map branches (children_of c.args.tree.now))) c.args.limit = rw c.children.ensures.value at c.all_branches_up_to.ensures in
     omega (arith, all, branches-out c.args.tree.now, c.own_branches.ensures.value)

@@ -18,7 +18,7 @@ are_formed_at-is_formed_at-requires t c =
 pub is_formed_at-are_formed_at-requires : goal.is_formed_at-are_formed_at-requires
 is_formed_at-are_formed_at-requires t c =
     let formed : is_formed_part c.args.depth (part_of c.args.tree.now) ≡ true = sym c.is_formed_part.ensures ∙ c.if-is_formed_part.true in
-    rw c.children.ensures (
+    rw c.children.ensures.value (
       omega (arith, c.decreases, nodes-out c.args.tree.now),
       λ some. fan_depth c.args.depth (part_of c.args.tree.now) formed (omega (arith, fan-part_of c.args.tree.now)),
     )
@@ -31,7 +31,7 @@ is_formed_at-returns-then-is_formed_part t c =
     let others = list_all (λ child. child (d + 1)) (map is_formed_at (children_of tree)) in
     let formed : own ≡ true = sym c.is_formed_part.ensures ∙ c.if-is_formed_part.true in
     let whole : is_formed_at tree d ≡ others = is_formed_at-out tree d ∙ true_and own others formed in
-    let rest : c.are_formed_at.result ≡ others = rw c.children.ensures at c.are_formed_at.ensures in
+    let rest : c.are_formed_at.result ≡ others = rw c.children.ensures.value at c.are_formed_at.ensures in
     rest ∙ sym whole
 
 pub is_formed_at-returns-else-is_formed_part : goal.is_formed_at-returns-else-is_formed_part

@@ -11,9 +11,9 @@ loop-need-preserved c =
     let n = c.loop-need.need in
     let one_more : (n - d) + 1 ≡ (n + 1) - d = omega arith in
     let here : d + (n - d) ≡ n = omega arith in (
-      c.push.ensures ∙ ap (λ needs. needs ++ n ∷ []) c.loop-need.invariant.0 ∙ ap (λ (k : ℕ). range_with_len d (n - d) ++ k ∷ []) (sym here)
+      c.push.ensures.value ∙ ap (λ needs. needs ++ n ∷ []) c.loop-need.invariant.0 ∙ ap (λ (k : ℕ). range_with_len d (n - d) ++ k ∷ []) (sym here)
           ∙ sym (range_with_len-more d (n - d)) ∙ ap (range_with_len d) one_more,
-      rw c.push.ensures (simp length-append (omega (arith, c.loop-need.invariant.1))),
+      rw c.push.ensures.value (simp length-append (omega (arith, c.loop-need.invariant.1))),
     )
 
 pub returns-clause-known : goal.returns-clause-known

@@ -22,7 +22,7 @@ are_explored-returns-then-not-is_explored t c =
     sym (are_explored-out c.args.problem.now c.args.rule.best c.args.rule.ceiling c.args.tree.now c.args.choices.now
     ∙ false_and (is_explored c.args.problem.now c.args.rule.best c.args.rule.ceiling (record { choices = c.args.choices.now; part = part_of c.args.tree.now }))
     (are_explored c.args.problem.now c.args.rule.best c.args.rule.ceiling (below c.args.problem.now c.args.choices.now 0 (map (visits c.args.problem.now) (children_of c.args.tree.now))))
-    (sym c.is_explored.ensures ∙ c.if-not-is_explored.true))
+    (sym c.is_explored.ensures.value ∙ c.if-not-is_explored.true))
 
 pub are_explored-are_children_explored-requires : goal.are_explored-are_children_explored-requires
 are_explored-are_children_explored-requires t c =
@@ -30,7 +30,7 @@ are_explored-are_children_explored-requires t c =
     let parts = is_formed_at-parts c.args.tree.now (length c.args.choices.now) c.requires.formed in
     let fan = fan_right c.args.problem.now c.args.choices.now (part_of c.args.tree.now) c.requires.choices right.0 in
     let size = fan-part_of c.args.tree.now in
-    rw c.children.ensures (
+    rw c.children.ensures.value (
       omega (arith, c.decreases, nodes-out c.args.tree.now),
       (
         c.requires.choices,
@@ -55,8 +55,8 @@ are_explored-returns t c =
     let cs = c.args.choices.now in
     let node = is_explored p best ceiling (record { choices = cs; part = part_of c.args.tree.now }) in
     let others = are_explored p best ceiling (below p cs 0 (map (visits p) (children_of c.args.tree.now))) in
-    let here : node ≡ true = sym c.is_explored.ensures ∙ c.if-not-is_explored.false in
-    let rest : c.are_children_explored.result ≡ others = rw c.children.ensures at c.are_children_explored.ensures in
+    let here : node ≡ true = sym c.is_explored.ensures.value ∙ c.if-not-is_explored.false in
+    let rest : c.are_children_explored.result ≡ others = rw c.children.ensures.value at c.are_children_explored.ensures in
     let whole : are_explored p best ceiling (visits p c.args.tree.now cs) ≡ others =
     are_explored-out p best ceiling c.args.tree.now cs ∙ true_and node others here in
     rest ∙ sym whole

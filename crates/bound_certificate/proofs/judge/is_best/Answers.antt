@@ -15,4 +15,4 @@ cost_of-cost-requires c =
     rw c.as_slice.ensures (is_placement-choices p cs parts.0)
 
 pub are_explored-explored-requires-clause-formed : goal.are_explored-explored-requires-clause-formed
-are_explored-explored-requires-clause-formed c = rw c.new.ensures (formed_root c.args.tree.now c.requires.formed)
+are_explored-explored-requires-clause-formed c = rw c.new.ensures.value (formed_root c.args.tree.now c.requires.formed)

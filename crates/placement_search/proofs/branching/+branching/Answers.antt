@@ -33,23 +33,23 @@ search_at-returns t c =
 
 pub search_child-is_over-requires : goal.search_child-is_over-requires
 search_child-is_over-requires t c =
-    rw (c.as_slice.ensures.value, c.with-child.ensures)
+    rw (c.as_slice.ensures.value, c.with-child.ensures.value)
     (choices_push c.args.problem.now c.args.choices.now c.args.site c.requires.choices c.requires.above c.requires.site)
 
 pub search_child-returns-then-is_over : goal.search_child-returns-then-is_over
 search_child-returns-then-is_over t c =
     let over : is_over c.args.problem.now (c.args.choices.now ++ c.args.site ∷ []) ≡ true =
-    sym (rw (c.as_slice.ensures.value, c.with-child.ensures) at c.is_over.ensures) ∙ c.if-is_over.true in
+    sym (rw (c.as_slice.ensures.value, c.with-child.ensures.value) at c.is_over.ensures.value) ∙ c.if-is_over.true in
     over_searched c.args.problem.now (c.args.choices.now ++ c.args.site ∷ []) c.args.progress.now over c.requires.kept
 
 pub search_child-search_at-requires : goal.search_child-search_at-requires
 search_child-search_at-requires t c =
     let p = c.args.problem.now in
     let qs = c.args.choices.now ++ c.args.site ∷ [] in
-    let right : is_over p qs ≡ false = sym (rw (c.as_slice.ensures.value, c.with-child.ensures) at c.is_over.ensures) ∙ c.if-is_over.false in
+    let right : is_over p qs ≡ false = sym (rw (c.as_slice.ensures.value, c.with-child.ensures.value) at c.is_over.ensures.value) ∙ c.if-is_over.false in
     let size : length qs ≡ length c.args.choices.now + 1 = simp length-append (omega arith) in
     let few : need_count p ≤ 64 = c.sites-sites.ensures.within.few_needs in
-    rw c.with-child.ensures (
+    rw c.with-child.ensures.value (
       omega (arith, c.decreases, size, few, c.requires.above),
       (
         choices_push p c.args.choices.now c.args.site c.requires.choices c.requires.above c.requires.site,

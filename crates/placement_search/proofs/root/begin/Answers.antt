@@ -2,12 +2,12 @@ use Rattle.placement_search.proofs.Capacities.{roomy_nothing, root_beaten}
 use Rattle.placement_search.proofs.root.begin.Goals as goal
 
 pub offer-requires-clause-room : goal.offer-requires-clause-room
-offer-requires-clause-room c = rw c.new.ensures (roomy_nothing c.args.problem.now)
+offer-requires-clause-room c = rw c.new.ensures.value (roomy_nothing c.args.problem.now)
 
 pub returns-clause-kept : goal.returns-clause-kept
 returns-clause-kept c =
     c.offer_dive.ensures.kept
     (record {
       best = c.offer.ensures.best (rw c.new-progress.ensures.cost tt);
-      begun = root_beaten c.args.problem.now c.offer.new.self.cost (rw c.new.ensures at c.offer.ensures.beaten);
+      begun = root_beaten c.args.problem.now c.offer.new.self.cost (rw c.new.ensures.value at c.offer.ensures.beaten);
     })

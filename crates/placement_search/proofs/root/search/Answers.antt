@@ -19,35 +19,35 @@ pub returns-then-is_crowded-clause-right : goal.returns-then-is_crowded-clause-r
 returns-then-is_crowded-clause-right c =
     let p = c.args.problem.now in
     let some : 0 < need_count p = c.sites-sites.ensures.within.some_needs in
-    let crowd = all_crowd p c.later-all.result c.later-all.ensures.value c.sites-sites.ensures.within c.later-all.ensures.known (rw c.as_slice.ensures.value at (sym c.is_crowded.ensures ∙ c.if-is_crowded.true)) in
+    let crowd = all_crowd p c.later-all.result c.later-all.ensures.value c.sites-sites.ensures.within c.later-all.ensures.known (rw c.as_slice.ensures.value at (sym c.is_crowded.ensures.value ∙ c.if-is_crowded.true)) in
     if_ok c.crowded_out.result (λ outcome is. rw is (crowd_right p c.args.nodes c.later-all.result some crowd)) c.crowded_out.ensures
 
 pub returns-then-is_crowded-clause-formed : goal.returns-then-is_crowded-clause-formed
 returns-then-is_crowded-clause-formed c =
     let p = c.args.problem.now in
-    let crowd = all_crowd p c.later-all.result c.later-all.ensures.value c.sites-sites.ensures.within c.later-all.ensures.known (rw c.as_slice.ensures.value at (sym c.is_crowded.ensures ∙ c.if-is_crowded.true)) in
+    let crowd = all_crowd p c.later-all.result c.later-all.ensures.value c.sites-sites.ensures.within c.later-all.ensures.known (rw c.as_slice.ensures.value at (sym c.is_crowded.ensures.value ∙ c.if-is_crowded.true)) in
     if_ok c.crowded_out.result (λ outcome is. rw is (crowd_formed p c.later-all.result c.sites-sites.ensures.within crowd)) c.crowded_out.ensures
 
 pub returns-then-is_crowded-clause-settled : goal.returns-then-is_crowded-clause-settled
 returns-then-is_crowded-clause-settled c few =
     let p = c.args.problem.now in
     let some : 0 < need_count p = c.sites-sites.ensures.within.some_needs in
-    let crowd = all_crowd p c.later-all.result c.later-all.ensures.value c.sites-sites.ensures.within c.later-all.ensures.known (rw c.as_slice.ensures.value at (sym c.is_crowded.ensures ∙ c.if-is_crowded.true)) in
+    let crowd = all_crowd p c.later-all.result c.later-all.ensures.value c.sites-sites.ensures.within c.later-all.ensures.known (rw c.as_slice.ensures.value at (sym c.is_crowded.ensures.value ∙ c.if-is_crowded.true)) in
     if_ok c.crowded_out.result
     (λ outcome is. rw is (right_settled p c.args.nodes (Infeasible (Hall c.later-all.result)) c.sites-sites.ensures.within (crowd_faultless p c.later-all.result some crowd) (crowd_right p c.args.nodes c.later-all.result some crowd) few))
     c.crowded_out.ensures
 
 pub search_at-requires-clause-room : goal.search_at-requires-clause-room
-search_at-requires-clause-room c = rw c.new.ensures (roomy_nothing c.args.problem.now)
+search_at-requires-clause-room c = rw c.new.ensures.value (roomy_nothing c.args.problem.now)
 
 pub conclude-requires-clause-formed : goal.conclude-requires-clause-formed
 conclude-requires-clause-formed c =
-    formed_searched c.args.problem.now c.args.nodes c.in_ok-progress.progress c.search_at.new.progress c.in_ok-tree.tree c.in_ok-progress.ensures.left c.requires.few (rw c.new.ensures at c.in_ok-tree.ensures)
+    formed_searched c.args.problem.now c.args.nodes c.in_ok-progress.progress c.search_at.new.progress c.in_ok-tree.tree c.in_ok-progress.ensures.left c.requires.few (rw c.new.ensures.value at c.in_ok-tree.ensures)
 
 pub returns-clause-right : goal.returns-clause-right
 returns-clause-right c =
     let p = c.args.problem.now in
-    let searched : IsTreeSearched p [] c.in_ok-progress.progress c.search_at.new.progress c.in_ok-tree.tree = rw c.new.ensures at c.in_ok-tree.ensures in
+    let searched : IsTreeSearched p [] c.in_ok-progress.progress c.search_at.new.progress c.in_ok-tree.tree = rw c.new.ensures.value at c.in_ok-tree.ensures in
     if_ok c.conclude.result
     (λ outcome is. rw is (concluded_right p c.args.nodes c.in_ok-progress.progress c.search_at.new.progress c.in_ok-tree.tree c.sites-sites.ensures.within c.in_ok-progress.ensures.left searched))
     c.conclude.ensures
@@ -55,7 +55,7 @@ returns-clause-right c =
 pub returns-clause-formed : goal.returns-clause-formed
 returns-clause-formed c =
     let p = c.args.problem.now in
-    let searched : IsTreeSearched p [] c.in_ok-progress.progress c.search_at.new.progress c.in_ok-tree.tree = rw c.new.ensures at c.in_ok-tree.ensures in
+    let searched : IsTreeSearched p [] c.in_ok-progress.progress c.search_at.new.progress c.in_ok-tree.tree = rw c.new.ensures.value at c.in_ok-tree.ensures in
     let formed = formed_searched p c.args.nodes c.in_ok-progress.progress c.search_at.new.progress c.in_ok-tree.tree c.in_ok-progress.ensures.left c.requires.few searched in
     if_ok c.conclude.result
     (λ outcome is. ap (λ (outcome : Outcome). is_formed (tree_of outcome)) is
@@ -66,7 +66,7 @@ pub returns-clause-settled : goal.returns-clause-settled
 returns-clause-settled c few =
     let p = c.args.problem.now in
     let after = c.search_at.new.progress in
-    let searched : IsTreeSearched p [] c.in_ok-progress.progress after c.in_ok-tree.tree = rw c.new.ensures at c.in_ok-tree.ensures in
+    let searched : IsTreeSearched p [] c.in_ok-progress.progress after c.in_ok-tree.tree = rw c.new.ensures.value at c.in_ok-tree.ensures in
     let shown = concluded p after.cost after.sites c.in_ok-tree.tree in
     let right = concluded_right p c.args.nodes c.in_ok-progress.progress after c.in_ok-tree.tree c.sites-sites.ensures.within c.in_ok-progress.ensures.left searched in
     let faultless : first_fault p 0 (visits p (tree_of shown) []) ≡ None =
