@@ -37,7 +37,7 @@ negated true h = refl
 negated false h = cc
 
 -- the later needs are such needs
-later_at : (p : Problem) (d k : ℕ) → k < need_count p - d → slice_index (later p d) k ≡ d + k
+pub later_at : (p : Problem) (d k : ℕ) → k < need_count p - d → slice_index (later p d) k ≡ d + k
 unfolding later
 later_at p d k below = get_or-range_with_len d (need_count p - d) k 0 below
 

@@ -1,4 +1,5 @@
 pub mod Kept
 pub mod Leaf
+pub mod Overload
 pub mod Searched
 pub mod Shown

@@ -6,6 +6,7 @@ ghost use Rattle.bound_certificate.specs.Formed.{is_formed};
 ghost use Rattle.bound_certificate.specs.Outcome.{tree_of, is_right};
 ghost use Rattle.bound_certificate.specs.Whole.{whole};
 ghost use Rattle.placement_search.specs.Kept.{IsKept};
+ghost use Rattle.placement_search.specs.Overload.{is_overloaded};
 ghost use Rattle.placement_search.specs.Searched.{IsTreeSearched};
 ghost use Rattle.placement_search.specs.Shown.{IsSettled, unplaced, concluded};
 
@@ -21,15 +22,15 @@ use std::alloc::Global;
 /// placement; the only error is the want of it.
 ///
 /// With more nodes than a tree of the problem can have, it is a placement of least cost with its bound equal, or
-/// says that none fits. Where all needs together are more than the sites of their vias can take, it says so by a
-/// tree of one Hall leaf.
+/// says that none fits. Where the loads of all needs together are above the capacities of the sites named in any
+/// via, it says so by a tree of one Hall leaf that names all needs.
 pub fn search(alloc: Global, problem: &Problem, nodes: u32) -> Result<Outcome, Memory>
     requires some { 1 ≤ nodes }
     requires few { nodes ≤ 4096 }
     ensures right { IfOk result (λ outcome. IsTrue (is_right problem.now nodes outcome)) }
     ensures formed { IfOk result (λ outcome. IsTrue (is_formed (tree_of outcome))) }
     ensures settled { whole problem.now < nodes → IfOk result (IsSettled problem.now) }
-    ensures crowded { IsTrue (is_crowded problem.now [] (later problem.now 0))
+    ensures overloaded { IsTrue (is_overloaded problem.now)
         → IfOk result (λ outcome. outcome ≡ Outcome.Infeasible (Tree.Hall (later problem.now 0))) }
 {
     // Its sites are within their limits, so that each via names one of them.

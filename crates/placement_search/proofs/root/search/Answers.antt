@@ -1,6 +1,7 @@
 -- A crowd of all needs settles it; else the searched tree shows what is concluded.
-use Rattle.std.proofs.Common.{◌≡◌, ◌<◌, [], None, sym, ◌∙◌, ap, subst}
+use Rattle.std.proofs.Common.{◌≡◌, ◌<◌, true, false, [], None, sym, ◌∙◌, ap, subst}
 use Rattle.bound_certificate.specs.Problem.{need_count}
+use Rattle.bound_certificate.specs.Node.{later, is_crowded}
 use Rattle.bound_certificate.specs.Tree.{visits, first_fault}
 use Rattle.bound_certificate.specs.Formed.{is_formed}
 use Rattle.bound_certificate.specs.Outcome.{tree_of}
@@ -13,6 +14,7 @@ use Rattle.placement_search.specs.Searched.{IsTreeSearched}
 use Rattle.placement_search.specs.Shown.{IsSettled, concluded}
 use Rattle.placement_search.proofs.Capacities.{roomy_nothing}
 use Rattle.placement_search.proofs.Conclusions.{all_crowd, crowd_right, crowd_faultless, crowd_formed, concluded_right, tree_of-concluded, formed_searched, right_settled}
+use Rattle.placement_search.proofs.Overload.{overloaded}
 use Rattle.placement_search.proofs.root.search.Goals as goal
 
 pub returns-then-is_crowded-clause-right : goal.returns-then-is_crowded-clause-right
@@ -73,3 +75,10 @@ returns-clause-settled c few =
     ap (λ (tree : Tree). first_fault p 0 (visits p tree [])) (tree_of-concluded p after.cost after.sites c.in_ok-tree.tree) ∙ searched.nodes.faultless in
     let settled : IsSettled p shown = right_settled p c.args.nodes shown c.sites-sites.ensures.within faultless right few in
     if_ok c.conclude.result (λ outcome is. subst (λ (outcome : Outcome). IsSettled p outcome) (sym is) settled) c.conclude.ensures
+
+pub returns-clause-overloaded : goal.returns-clause-overloaded
+returns-clause-overloaded c over =
+    let p = c.args.problem.now in
+    let crowded : is_crowded p [] (later p 0) ≡ true = sym (overloaded p) ∙ over in
+    let not_crowded : is_crowded p [] (later p 0) ≡ false = rw (c.as_slice.ensures.value, c.later-all.ensures.value) at (sym c.is_crowded.ensures.value ∙ c.if-is_crowded.false) in
+    absurd (cc)
