@@ -24,7 +24,7 @@ pub fn search_at(
     requires choices { AreChoices problem.now choices.now }
     requires room { IsRoomy problem.now choices.now }
     requires kept { IsKept problem.now progress.old }
-    ensures { IfOk result (IsTreeSearched problem.now choices.now progress.old progress.new) }
+    ensures searched { IfOk result (IsTreeSearched problem.now choices.now progress.old progress.new) }
 {
     // Its sites are within their limits, so that each via has few of them.
     let _sites = problem.sites();
@@ -77,7 +77,7 @@ fn search_child(
     requires choices { AreChoices problem.now choices.now }
     requires room { IsRoomy problem.now choices.now }
     requires kept { IsKept problem.now progress.old }
-    ensures { IfOk result (IsTreeSearched problem.now (choices.now ++ site ∷ []) progress.old progress.new) }
+    ensures searched { IfOk result (IsTreeSearched problem.now (choices.now ++ site ∷ []) progress.old progress.new) }
 {
     // Its sites are within their limits, so that each via names one of them.
     let _sites = problem.sites();

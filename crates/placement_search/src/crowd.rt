@@ -25,7 +25,7 @@ pub fn find_crowd(problem: &Problem, choices: &Numbers) -> Option<Numbers>
 // The later needs whose vias lie in the via of one of them, where these are a crowd: the first such ones.
 fn smaller_crowd(problem: &Problem, choices: &Numbers) -> Option<Numbers>
     requires { length choices.now < need_count problem.now }
-    ensures { IfSome result (IsCrowd problem.now choices.now) }
+    ensures crowd { IfSome result (IsCrowd problem.now choices.now) }
 {
     let _count = problem.need_count();
     let room = Room::beside(problem, choices.as_slice());
@@ -41,7 +41,7 @@ fn smaller_crowd(problem: &Problem, choices: &Numbers) -> Option<Numbers>
 // Whether these needs are a crowd.
 fn is_crowd(problem: &Problem, choices: &Numbers, names: &Numbers) -> bool
     requires { length choices.now ≤ need_count problem.now }
-    ensures { OnTrue result (IsCrowd problem.now choices.now names.now) }
+    ensures crowd { OnTrue result (IsCrowd problem.now choices.now names.now) }
 {
     if !is_hall_set(problem, choices.len(), names.as_slice()) {
         return false;

@@ -33,7 +33,7 @@ pub fn dive(problem: &Problem) -> Option<Numbers> {
 fn best_guess(problem: &Problem, choices: &Numbers) -> Option<Guess>
     requires above { length choices.now < need_count problem.now }
     requires choices { AreChoices problem.now choices.now }
-    ensures { IfSome result (λ guess. IsTrue (has (via problem.now (length choices.now)) guess.site)) }
+    ensures stands { IfSome result (λ guess. IsTrue (has (via problem.now (length choices.now)) guess.site)) }
 {
     let mut best = None;
     for site in problem.via(choices.len()) {
@@ -45,7 +45,7 @@ fn best_guess(problem: &Problem, choices: &Numbers) -> Option<Guess>
 
 // The guess with the lesser estimate.
 fn lesser(one: Option<Guess>, other: Option<Guess>) -> Option<Guess>
-    ensures { (result ≡ one) ⊎ (result ≡ other) }
+    ensures either { (result ≡ one) ⊎ (result ≡ other) }
 {
     match (one, other) {
         (None, other) => other,
@@ -65,7 +65,7 @@ fn estimate(problem: &Problem, choices: &Numbers, site: u8) -> Option<Guess>
     requires above { length choices.now < need_count problem.now }
     requires choices { AreChoices problem.now choices.now }
     requires site { IsTrue (has (via problem.now (length choices.now)) site) }
-    ensures { IfSome result (λ guess. guess.site ≡ site) }
+    ensures site { IfSome result (λ guess. guess.site ≡ site) }
 {
     let _sites = problem.sites();
     let child = choices.with(site);

@@ -27,7 +27,7 @@ pub fn leaf_at(
     requires room { IsRoomy problem.now choices.now }
     requires kept { IsKept problem.now progress.now }
     requires beaten { IsTrue (is_beaten problem.now progress.now.cost choices.now) }
-    ensures { IfOk result (λ found. MatchOption found (IsOpen problem.now choices.now progress.now)
+    ensures found { IfOk result (λ found. MatchOption found (IsOpen problem.now choices.now progress.now)
         (IsLeaf problem.now choices.now progress.now)) }
 {
     // Its sites are within their limits, so that it has few of them.
@@ -49,7 +49,7 @@ pub fn leaf_at(
 
 // The Hall leaf of these needs.
 fn hall(alloc: Global, names: &Numbers) -> Result<Tree, Memory>
-    ensures { IfOk result (λ tree. tree ≡ Tree.Hall names.now) }
+    ensures leaf { IfOk result (λ tree. tree ≡ Tree.Hall names.now) }
 {
     match Items::from_slice(alloc, names.as_slice()) {
         Ok(names) => Ok(Tree::Hall(names)),
@@ -61,7 +61,7 @@ fn hall(alloc: Global, names: &Numbers) -> Result<Tree, Memory>
 fn is_closed(problem: &Problem, choices: &[u8], prices: &Prices, progress: &Progress) -> bool
     requires choices { AreChoices problem.now choices.now }
     requires prices { ArePrices problem.now choices.now prices.now.lambda prices.now.mu }
-    ensures { result ≡ (progress.now.left == 0 || reaches progress.now.cost
+    ensures value { result ≡ (progress.now.left == 0 || reaches progress.now.cost
         (Some (dual_value problem.now choices.now prices.now.lambda prices.now.mu))) }
 {
     progress.left == 0 || reaches(problem, choices, prices, progress.cost)
@@ -71,7 +71,7 @@ fn is_closed(problem: &Problem, choices: &[u8], prices: &Prices, progress: &Prog
 fn reaches(problem: &Problem, choices: &[u8], prices: &Prices, best: Option<u64>) -> bool
     requires choices { AreChoices problem.now choices.now }
     requires prices { ArePrices problem.now choices.now prices.now.lambda prices.now.mu }
-    ensures { result ≡ reaches best (Some (dual_value problem.now choices.now prices.now.lambda prices.now.mu)) }
+    ensures value { result ≡ reaches best (Some (dual_value problem.now choices.now prices.now.lambda prices.now.mu)) }
 {
     let Some(best) = best else {
         return false;

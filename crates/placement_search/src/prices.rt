@@ -25,7 +25,7 @@ pub struct Prices {
 /// Prices whose dual is right and whose value is at least the node's floor.
 pub fn prices_at(alloc: Global, problem: &Problem, choices: &[u8]) -> Result<Prices, Memory>
     requires { AreChoices problem.now choices.now }
-    ensures { IfOk result (λ prices. IsDual problem.now choices.now prices.lambda prices.mu) }
+    ensures dual { IfOk result (λ prices. IsDual problem.now choices.now prices.lambda prices.mu) }
 {
     // Its sites are within their limits, so that each via names one of them.
     let _sites = problem.sites();
@@ -54,7 +54,7 @@ fn raised_prices(alloc: Global, problem: &Problem, choices: &[u8]) -> Result<Pri
 fn is_better(problem: &Problem, choices: &[u8], prices: &Prices, floor: &Prices) -> bool
     requires choices { AreChoices problem.now choices.now }
     requires floor { IsDual problem.now choices.now floor.now.lambda floor.now.mu }
-    ensures { OnTrue result (IsDual problem.now choices.now prices.now.lambda prices.now.mu) }
+    ensures dual { OnTrue result (IsDual problem.now choices.now prices.now.lambda prices.now.mu) }
 {
     let lambda = prices.lambda.as_slice();
     let mu = prices.mu.as_slice();
@@ -76,7 +76,7 @@ fn is_better(problem: &Problem, choices: &[u8], prices: &Prices, floor: &Prices)
 // Whether there is one lambda for each later need and one mu for each site, all within the limits.
 fn are_prices(problem: &Problem, choices: &[u8], lambda: &[u64], mu: &[u64]) -> bool
     requires { length choices.now ≤ need_count problem.now }
-    ensures { OnTrue result (ArePrices problem.now choices.now lambda.now mu.now) }
+    ensures prices { OnTrue result (ArePrices problem.now choices.now lambda.now mu.now) }
 {
     let later = usize::from(problem.need_count()) - choices.len();
     let fits = lambda.len() == later && mu.len() == usize::from(problem.site_count());
@@ -85,7 +85,7 @@ fn are_prices(problem: &Problem, choices: &[u8], lambda: &[u64], mu: &[u64]) -> 
 
 // Whether all of these numbers are below 2^56.
 fn are_small(numbers: &[u64]) -> bool
-    ensures { OnTrue result (All (λ x. x < 2 ^ 56) numbers.now) }
+    ensures small { OnTrue result (All (λ x. x < 2 ^ 56) numbers.now) }
 {
     for number in numbers {
         if *number >= 1 << 56 {
@@ -98,7 +98,7 @@ fn are_small(numbers: &[u64]) -> bool
 // The prices whose value is the node's floor.
 fn floor_prices(alloc: Global, problem: &Problem, choices: &[u8]) -> Result<Prices, Memory>
     requires { AreChoices problem.now choices.now }
-    ensures { IfOk result (λ prices. IsFloorDual problem.now choices.now prices.lambda prices.mu) }
+    ensures floor { IfOk result (λ prices. IsFloorDual problem.now choices.now prices.lambda prices.mu) }
 {
     let lambda = least_prices(alloc, problem, choices)?;
     let mu = free_sites(alloc, problem)?;

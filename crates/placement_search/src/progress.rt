@@ -93,7 +93,7 @@ impl Progress {
 
 // Whether a cost is less than the best one, if there is one.
 fn is_less(cost: u64, best: Option<u64>) -> bool
-    ensures { result ≡ not (is_no_better best (Some cost)) }
+    ensures value { result ≡ not (is_no_better best (Some cost)) }
 {
     match best {
         Some(best) => cost < best,

@@ -46,7 +46,7 @@ pub fn search(alloc: Global, problem: &Problem, nodes: u32) -> Result<Outcome, M
 
 // The outcome whose tree is one Hall leaf of these needs.
 fn crowded_out(alloc: Global, names: &Numbers) -> Result<Outcome, Memory>
-    ensures { IfOk result (λ outcome. outcome ≡ Outcome.Infeasible (Tree.Hall names.now)) }
+    ensures value { IfOk result (λ outcome. outcome ≡ Outcome.Infeasible (Tree.Hall names.now)) }
 {
     match Items::from_slice(alloc, names.as_slice()) {
         Ok(names) => Ok(Outcome::Infeasible {
@@ -87,7 +87,7 @@ fn conclude(
 ) -> Result<Outcome, Memory>
     requires formed { IsTrue (is_formed tree) }
     requires right { first_fault problem.now 0 (visits problem.now tree []) ≡ None }
-    ensures { IfOk result (λ outcome. outcome ≡ concluded problem.now progress.now.cost progress.now.sites tree) }
+    ensures value { IfOk result (λ outcome. outcome ≡ concluded problem.now progress.now.cost progress.now.sites tree) }
 {
     let Some(_) = progress.cost else {
         return Ok(unplaced(problem, tree));
@@ -105,7 +105,7 @@ fn conclude(
 fn unplaced(problem: &Problem, tree: Tree) -> Outcome
     requires formed { IsTrue (is_formed tree) }
     requires right { first_fault problem.now 0 (visits problem.now tree []) ≡ None }
-    ensures { result ≡ unplaced problem.now tree }
+    ensures value { result ≡ unplaced problem.now tree }
 {
     let is_infeasible = match check(problem, &tree) {
         Ok(verdict) => verdict.bound.is_none(),

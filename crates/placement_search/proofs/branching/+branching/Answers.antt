@@ -13,23 +13,25 @@ use Rattle.placement_search.proofs.Composed.{pushed_ok, kept_on, leaf_searched, 
 use Rattle.placement_search.proofs.branching.+branching.Goals as goal
 
 pub search_at-returns-in-Some : goal.search_at-returns-in-Some
-search_at-returns-in-Some t c =
-    let p = c.args.problem.now in
-    let leaf : IsLeaf p c.args.choices.now c.offer.new.self c.in-Some.leaf =
-    subst (λ found. MatchOption found (IsOpen p c.args.choices.now c.offer.new.self) (IsLeaf p c.args.choices.now c.offer.new.self)) c.in-Some.is c.in_ok-found.ensures in
-    leaf_searched p c.args.choices.now c.args.progress.now c.offer.new.self c.in-Some.leaf leaf c.offer.ensures.beaten c.offer.ensures.left c.offer.ensures.no_worse
-    (kept_on p c.args.progress.now c.offer.new.self c.requires.kept c.offer.ensures.no_worse c.offer.ensures.best)
+search_at-returns-in-Some t c = record {
+  searched = let p = c.args.problem.now in
+      let leaf : IsLeaf p c.args.choices.now c.offer.new.self c.in-Some.leaf =
+      subst (λ found. MatchOption found (IsOpen p c.args.choices.now c.offer.new.self) (IsLeaf p c.args.choices.now c.offer.new.self)) c.in-Some.is c.in_ok-found.ensures.found in
+      leaf_searched p c.args.choices.now c.args.progress.now c.offer.new.self c.in-Some.leaf leaf c.offer.ensures.beaten c.offer.ensures.left c.offer.ensures.no_worse
+      (kept_on p c.args.progress.now c.offer.new.self c.requires.kept c.offer.ensures.no_worse c.offer.ensures.best);
+}
 
 pub search_at-returns : goal.search_at-returns
-search_at-returns t c =
-    let p = c.args.problem.now in
-    let cs = c.args.choices.now in
-    let mid = c.offer.new.self in
-    let spent : Progress = record { cost = mid.cost; sites = mid.sites; left = mid.left - 1 } in
-    let unclosed : IsOpen p cs mid = subst (λ found. MatchOption found (IsOpen p cs mid) (IsLeaf p cs mid)) c.in_default.is c.in_ok-found.ensures in
-    let kept = kept_on p c.args.progress.now mid c.requires.kept c.offer.ensures.no_worse c.offer.ensures.best in
-    branch_searched p cs c.args.progress.now mid spent c.search_children.new.progress c.in_ok-children.children c.sites-sites.ensures.within c.requires.room unclosed
-    c.offer.ensures.beaten c.offer.ensures.left c.offer.ensures.no_worse refl (omega (arith, unclosed.left)) (record { best = kept.best; begun = kept.begun }) c.in_ok-children.ensures.size c.in_ok-children.ensures.searched
+search_at-returns t c = record {
+  searched = let p = c.args.problem.now in
+      let cs = c.args.choices.now in
+      let mid = c.offer.new.self in
+      let spent : Progress = record { cost = mid.cost; sites = mid.sites; left = mid.left - 1 } in
+      let unclosed : IsOpen p cs mid = subst (λ found. MatchOption found (IsOpen p cs mid) (IsLeaf p cs mid)) c.in_default.is c.in_ok-found.ensures.found in
+      let kept = kept_on p c.args.progress.now mid c.requires.kept c.offer.ensures.no_worse c.offer.ensures.best in
+      branch_searched p cs c.args.progress.now mid spent c.search_children.new.progress c.in_ok-children.children c.sites-sites.ensures.within c.requires.room unclosed
+      c.offer.ensures.beaten c.offer.ensures.left c.offer.ensures.no_worse refl (omega (arith, unclosed.left)) (record { best = kept.best; begun = kept.begun }) c.in_ok-children.ensures.size c.in_ok-children.ensures.searched;
+}
 
 pub search_child-is_over-requires : goal.search_child-is_over-requires
 search_child-is_over-requires t c =
@@ -37,10 +39,11 @@ search_child-is_over-requires t c =
     (choices_push c.args.problem.now c.args.choices.now c.args.site c.requires.choices c.requires.above c.requires.site)
 
 pub search_child-returns-then-is_over : goal.search_child-returns-then-is_over
-search_child-returns-then-is_over t c =
-    let over : is_over c.args.problem.now (c.args.choices.now ++ c.args.site ∷ []) ≡ true =
-    sym (rw (c.as_slice.ensures.value, c.with-child.ensures.value) at c.is_over.ensures.value) ∙ c.if-is_over.true in
-    over_searched c.args.problem.now (c.args.choices.now ++ c.args.site ∷ []) c.args.progress.now over c.requires.kept
+search_child-returns-then-is_over t c = record {
+  searched = let over : is_over c.args.problem.now (c.args.choices.now ++ c.args.site ∷ []) ≡ true =
+      sym (rw (c.as_slice.ensures.value, c.with-child.ensures.value) at c.is_over.ensures.value) ∙ c.if-is_over.true in
+      over_searched c.args.problem.now (c.args.choices.now ++ c.args.site ∷ []) c.args.progress.now over c.requires.kept;
+}
 
 pub search_child-search_at-requires : goal.search_child-search_at-requires
 search_child-search_at-requires t c =
@@ -98,5 +101,5 @@ search_children-loop-site-preserved t c =
     let place : site ≡ slice_index (via p (length cs)) (length ts) = rw (sites, c.loop-site.invariant.1) refl in
     let pushed : c.push.new.self ≡ ts ++ child ∷ [] = pushed_ok c.push.result c.if-is_err.ensures.value c.push.ensures.ok in
     let more : AreSearched p cs c.args.progress.now c.search_child.new.progress (ts ++ child ∷ []) =
-    child_searched p cs c.args.progress.now c.loop-site.progress c.search_child.new.progress ts child site c.loop-site.invariant.0 place c.in_ok-child.ensures in
+    child_searched p cs c.args.progress.now c.loop-site.progress c.search_child.new.progress ts child site c.loop-site.invariant.0 place c.in_ok-child.ensures.searched in
     rw pushed (more, simp length-append (omega (arith, c.loop-site.invariant.1)))

@@ -28,6 +28,6 @@ loop-site-preserved c =
     let sites : c.via-site-items.result.now ≡ via p (length cs) = c.via-site-items.ensures.value ∙ ap (via p) c.len.ensures.value in
     let within : c.loop-site.site-index < length (via p (length cs)) = rw sites at c.loop-site-test.true in
     let site = slice_index (via p (length cs)) c.loop-site.site-index in
-    let is = rw sites at c.estimate-guess.ensures in
-    either (λ guess. has (via p (length cs)) guess.site ≡ true) c.loop-site.best c.estimate-guess.result c.lesser-best.result c.lesser-best.ensures c.loop-site.invariant
+    let is = rw sites at c.estimate-guess.ensures.site in
+    either (λ guess. has (via p (length cs)) guess.site ≡ true) c.loop-site.best c.estimate-guess.result c.lesser-best.result c.lesser-best.ensures.either c.loop-site.invariant
     (stands (via p (length cs)) site c.estimate-guess.result (has-at (via p (length cs)) c.loop-site.site-index within) is)
