@@ -48,14 +48,14 @@ pub children_of-Full : children_of Full ≡ []
 children_of-Full = search (rules, the_lemmas)
 
 -- mapping over the children changes no part, and maps the children
-part_step-map : {X Y : Type 0} (f : X → Y) (layer : Tree-F X) → part_step (map-Tree X Y f layer) ≡ part_step layer
+pub part_step-map : {X Y : Type 0} (f : X → Y) (layer : Tree-F X) → part_step (map-Tree X Y f layer) ≡ part_step layer
 part_step-map f (Tree-F.Branch xs) = ap BranchPart (length-map xs f)
 part_step-map f Tree-F.Over = refl
 part_step-map f (Tree-F.Hall names) = refl
 part_step-map f (Tree-F.Dual lambda mu) = refl
 part_step-map f Tree-F.Full = refl
 
-children_step-map : {X Y : Type 0} (f : X → Y) (layer : Tree-F X) → children_step (map-Tree X Y f layer) ≡ map f (children_step layer)
+pub children_step-map : {X Y : Type 0} (f : X → Y) (layer : Tree-F X) → children_step (map-Tree X Y f layer) ≡ map f (children_step layer)
 children_step-map f (Tree-F.Branch xs) = refl
 children_step-map f Tree-F.Over = refl
 children_step-map f (Tree-F.Hall names) = refl
@@ -128,7 +128,7 @@ all_such : (P : Tree → Type 0) (es : List ((tree : Tree) × P tree)) → AllBy
 all_such P [] = tt
 all_such P (e ∷ es) = (e.1, all_such P es)
 
-children_of-roll : (layer : Tree-F Tree) → children_of (roll-Tree layer) ≡ children_step layer
+pub children_of-roll : (layer : Tree-F Tree) → children_of (roll-Tree layer) ≡ children_step layer
 children_of-roll layer = search (rules, the_lemmas)
 
 pub tree_induction : (P : Tree → Type 0) → ((tree : Tree) → AllByRecursion P (children_of tree) → P tree) → (tree : Tree) → P tree

@@ -23,9 +23,10 @@ pub fn floor_of(problem: &Problem, choices: &[u8]) -> u64
     sum
 }
 
-// The least that a later need costs at a site of its via.
+/// The least that a later need costs at a site of its via, where the first need without a choice is counted as 0. That
+/// one may also have to open the site.
 #[tactic(auto, unfolding(crate::specs::Floor::floor_by, crate::specs::Floor::least_by))]
-fn floor_by(problem: &Problem, choices: &[u8], j: usize) -> u64
+pub fn floor_by(problem: &Problem, choices: &[u8], j: usize) -> u64
     requires need { length choices.now + j < need_count problem.now }
     requires few { need_count problem.now ≤ 64 }
     ensures value { result ≡ floor_by problem.now choices.now j }

@@ -65,7 +65,7 @@ fn is_formed_hall(names: &[u8]) -> bool
 }
 
 // Whether all of these numbers are below 64.
-fn are_names(names: &[u8]) -> bool
+pub(crate) fn are_names(names: &[u8]) -> bool
     ensures { result ≡ list_all (λ x. nat_lt x 64) names.now }
 {
     names.iter().all(|name| *name < 64)

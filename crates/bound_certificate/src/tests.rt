@@ -1,5 +1,9 @@
 //! Small problems worked by hand: placements, trees and outcomes.
 
+mod bytes;
+mod nodes;
+mod text;
+
 use crate::{
     Need, Outcome, OutcomeFault, Placement, Problem, Site, Tree, TreeFault, TreeWhy, Verdict,
     check, check_outcome, cost, first_fit, fits, is_formed, is_within, tree_bytes, tree_text,

@@ -18,7 +18,7 @@ use Rattle.mon_command.specs.declared.epochs.Epochs.{Epochs}
 use Rattle.mon_command.specs.declared.setting.Setting.{Setting}
 use Rattle.mon_command.specs.declared.status.Input.TheVariants as inputs
 use Rattle.mon_command.specs.declared.status.Status.{Status}
-use Rattle.mon_command.specs.declared.status.Status.TheVariants.{Done, Usage, ReadFault, Topology, Trace, SinkFault, Memory}
+use Rattle.mon_command.specs.declared.status.Status.TheVariants.{Done, Usage, ReadFault, Topology, Trace, Certificate, SinkFault, Memory}
 
 -- what was sketched of a trace are some records
 pub part_of_trace : {contents : Option (List ℕ)} {topology : Option Topo} {setting : Setting} {epochs : Epochs} → IsDivided contents topology setting epochs → IsPart setting topology epochs
@@ -57,7 +57,7 @@ suffix_left (Some bytes) None (Some now) over (inl same) = absurd (cc)
 suffix_left (Some bytes) mid (Some now) over (inr (front, took)) = let is = took.taken in (front, cc)
 
 -- a rise behind a count that didn't fall
-rose_later : (before mid now : ℕ) → before ≤ mid → Rose mid now → Rose before now
+pub rose_later : (before mid now : ℕ) → before ≤ mid → Rose mid now → Rose before now
 rose_later before mid now later rose = omega (arith, later, rose)
 
 -- what is answered behind a topology that was read
@@ -83,11 +83,13 @@ routed_answers trace name setting topology before mid after sink sink_after (Rea
   ),
   reports.2,
 )
+routed_answers trace name setting topology before mid after sink sink_after (ReadFault inputs.Tree) stays later spelled over reports = absurd reports
 routed_answers trace name setting topology before mid after sink sink_after (Topology fault) stays later spelled over reports = absurd reports
 routed_answers trace name setting topology before mid after sink sink_after (Trace fault) stays later spelled over reports = (
   ((Some topology, (topology, refl, spelled)), subst (λ (f : List ℕ → Option (List ℕ)). IfSome (f trace) (λ bytes. HasTraceFault setting.epoch bytes fault)) stays reports.0),
   reports.1,
 )
+routed_answers trace name setting topology before mid after sink sink_after (Certificate fault) stays later spelled over reports = absurd reports
 routed_answers trace name setting topology before mid after sink sink_after SinkFault stays later spelled over reports = (
   reports.0,
   record {

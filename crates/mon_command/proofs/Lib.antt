@@ -1,4 +1,6 @@
 pub mod Answered
+pub mod Certificates
+pub mod Certifying
 pub mod Completeness
 pub mod Counting
 pub mod Splitting

@@ -12,11 +12,7 @@ use Rattle.mon_command.specs.declared.setting.Setting.{Setting}
 pub data Asked : Type 0 where
   Total : List ℕ → Asked
   Central : List ℕ → Option (List ℕ) → Setting → Asked
-
--- the name of the trace that is read
-abbrev pub trace_of : Asked → List ℕ
-trace_of (Total trace) = trace
-trace_of (Central trace topology setting) = trace
+  Check : List ℕ → List ℕ → Asked
 
 -- the numbers of a sketch and of what is printed of it
 abbrev pub setting_in : Values → Setting
@@ -30,10 +26,11 @@ setting_in values = record {
   heavy = values.heavy;
 }
 
--- the command, of the trace that the first name names
+-- the command, of the trace that the first name names, or of the topology and the tree that both names name
 abbrev pub asked_by : Command → Values → Asked
 asked_by words.Total values = Total (slice_index_or values.names 0 [])
 asked_by words.Central values = Central (slice_index_or values.names 0 []) values.topology (setting_in values)
+asked_by words.Check values = Check (slice_index_or values.names 0 []) (slice_index_or values.names 1 [])
 
 abbrev pub asked_in : Values → Asked
 asked_in values = asked_by values.command values

@@ -1,6 +1,8 @@
 pub mod Asked
 pub mod Call
 pub mod Central
+pub mod Certified
+pub mod Checked
 pub mod Complete
 pub mod Live
 pub mod Report

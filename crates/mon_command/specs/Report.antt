@@ -10,7 +10,7 @@ use Rattle.mon_command.specs.Scan.{HasTraceFault}
 use Rattle.mon_command.specs.declared.setting.Setting.{Setting}
 use Rattle.mon_command.specs.declared.status.Input.TheVariants as inputs
 use Rattle.mon_command.specs.declared.status.Status.{Status}
-use Rattle.mon_command.specs.declared.status.Status.TheVariants.{Done, Usage, ReadFault, Topology, Trace, SinkFault, Memory}
+use Rattle.mon_command.specs.declared.status.Status.TheVariants.{Done, Usage, ReadFault, Topology, Trace, Certificate, SinkFault, Memory}
 use Rattle.mon_command.specs.declared.stop.TopologyStop.{TopologyStop}
 use Rattle.mon_command.specs.declared.stop.TopologyStop.TheVariants as stops
 
@@ -34,9 +34,11 @@ Reports trace topology setting call (ReadFault inputs.Topology) = ⊥
 Reports trace topology setting call (ReadFault inputs.Trace) =
     Rose call.inputs.faults call.inputs_after.faults
     × IsLeft (call.inputs.contents trace) call.inputs.rest call.inputs_after.rest × IsSilent call
+Reports trace topology setting call (ReadFault inputs.Tree) = ⊥
 Reports trace topology setting call (Topology fault) = ⊥
 Reports trace topology setting call (Trace fault) =
     IfSome (call.inputs.contents trace) (λ bytes. HasTraceFault setting.epoch bytes fault) × IsSilent call
+Reports trace topology setting call (Certificate fault) = ⊥
 Reports trace topology setting call SinkFault =
     Rose call.sink.faults call.sink_after.faults × WroteReportPart trace topology setting call
 Reports trace topology setting call Memory = IsSilent call

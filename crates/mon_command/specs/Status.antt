@@ -3,9 +3,13 @@ use Rattle.std.specs.Prelude.{ℕ, ◌/◌, ◌%◌, false, List, [], ◌++◌, 
 use Rattle.std.specs.Fmt.{radix_digits}
 use Rattle.pcap_reader.specs.declared.fault.PcapFault.{PcapFault}
 use Rattle.pcap_reader.specs.declared.fault.PcapFault.TheVariants as pcap
+use Rattle.bound_certificate.specs.declared.fault.CertFault.{CertFault}
+use Rattle.bound_certificate.specs.declared.fault.CertFault.TheVariants as certificate
+use Rattle.bound_certificate.specs.declared.verdict.TreeWhy.{TreeWhy}
+use Rattle.bound_certificate.specs.declared.verdict.TreeWhy.TheVariants as why
 use Rattle.mon_command.specs.declared.status.Input.TheVariants as inputs
 use Rattle.mon_command.specs.declared.status.Status.{Status}
-use Rattle.mon_command.specs.declared.status.Status.TheVariants.{Done, Usage, ReadFault, Topology, Trace, SinkFault, Memory}
+use Rattle.mon_command.specs.declared.status.Status.TheVariants.{Done, Usage, ReadFault, Topology, Trace, Certificate, SinkFault, Memory}
 use Rattle.mon_command.specs.declared.status.TraceFault.{TraceFault}
 use Rattle.mon_command.specs.declared.status.TraceFault.TheVariants.{Pcap, Epochs}
 use Rattle.mon_words.specs.Options.{name_of}
@@ -26,6 +30,7 @@ number_of (ReadFault input) = 3
 number_of (Topology fault) = 4
 number_of (Trace fault) = 5
 number_of SinkFault = 10
+number_of (Certificate fault) = 11
 number_of Memory = 13
 
 -- one digit of a number below 16
@@ -101,13 +106,38 @@ topology_line (fault.Count e index w found) = value_line (codes "count") e index
 topology_line fault.Memory = codes "univmon: out of memory"
 topology_line fault.TooLong = codes "univmon: topology: too long"
 
+-- why a node is wrong
+abbrev pub why_words : TreeWhy → List ℕ
+why_words why.NotOver = codes "not over"
+why_words why.IsOver = codes "is over"
+why_words why.Depth = codes "depth"
+why_words why.Children = codes "children"
+why_words why.HallSet = codes "hall set"
+why_words why.HallLoad = codes "hall load"
+why_words why.DualShape = codes "dual shape"
+why_words (why.DualSum switch) = codes "dual sum " ++ decimal switch
+why_words why.Idle = codes "idle"
+
+-- what is wrong with a node
+unfoldable pub node_line : ℕ → TreeWhy → List ℕ
+node_line node w = codes "univmon: certificate: node " ++ (decimal node ++ (codes " " ++ why_words w))
+
+abbrev pub certificate_line : CertFault → List ℕ
+certificate_line certificate.TooLong = codes "univmon: certificate: too long"
+certificate_line certificate.NoTree = codes "univmon: certificate: no tree"
+certificate_line (certificate.Line number) = codes "univmon: certificate: line " ++ decimal number
+certificate_line (certificate.Node node w) = node_line node w
+certificate_line certificate.Memory = codes "univmon: out of memory"
+
 -- the line that is printed on standard error, empty where the work was done
 abbrev pub line_of : Status → List ℕ
 line_of Done = []
 line_of (Usage fault) = usage_line fault
 line_of (ReadFault inputs.Topology) = codes "univmon: cannot read topology"
 line_of (ReadFault inputs.Trace) = codes "univmon: cannot read trace"
+line_of (ReadFault inputs.Tree) = codes "univmon: cannot read tree"
 line_of (Topology fault) = topology_line fault
 line_of (Trace fault) = trace_line fault
+line_of (Certificate fault) = certificate_line fault
 line_of SinkFault = codes "univmon: cannot write"
 line_of Memory = codes "univmon: out of memory"

@@ -4,12 +4,14 @@ ghost use Rattle.mon_words.specs.Values.{IsInRange};
 ghost use Rattle.mon_command.specs.Asked.{Asked, asked_in, asked_of};
 ghost use Rattle.mon_command.specs.Call.{Answers, Outcome, Keeps, call_of};
 ghost use Rattle.mon_command.specs.Complete.{UnlessMemory};
-ghost use Rattle.mon_command.specs.Told.{IsSmooth, IsAccepted, HasTold, HasToldUnfit};
+ghost use Rattle.mon_command.specs.Told.{IsSmooth, IsAccepted, HasTold, HasToldUncertified, HasToldUnfit};
 ghost use Rattle.mon_command.specs.declared.status.TraceFault.{TraceFault};
+ghost use Rattle.bound_certificate.specs.declared.fault.CertFault.{CertFault};
 ghost use Rattle.topology.specs.declared.fault.TopologyFault.{TopologyFault};
 
 use crate::Status;
 use crate::central::{central, central_routed};
+use crate::checking::check_tree;
 use crate::setting::Setting;
 use crate::total::total;
 use mon_io::{Inputs, Sink};
@@ -44,6 +46,12 @@ pub fn run_alone<I: Inputs, K: Sink>(
         let call = call_of (I.state inputs.old) (I.state inputs.new) (K.state sink.old) (K.state sink.new) in
         IsSmooth (asked_of (map string_bytes words.now)) asked call → HasTold asked call fault →
         UnlessMemory (Status.Trace fault) result }
+
+    // A fault of the certificate is told, unless memory runs out.
+    ensures uncertified { (asked : Asked) (fault : CertFault) →
+        let call = call_of (I.state inputs.old) (I.state inputs.new) (K.state sink.old) (K.state sink.new) in
+        IsSmooth (asked_of (map string_bytes words.now)) asked call → HasToldUncertified asked call fault →
+        UnlessMemory (Status.Certificate fault) result }
 {
     answer(alloc, words, inputs, sink)
 }
@@ -73,17 +81,18 @@ fn perform<I: Inputs, K: Sink>(alloc: Global, words: &Words, inputs: &mut I, sin
         Answers (asked_in words.now) call result }
     ensures keeps { Keeps (call_of (I.state inputs.old) (I.state inputs.new) (K.state sink.old) (K.state sink.new)) }
 {
-    let trace = words.names[0].as_str();
+    let name = words.names[0].as_str();
     match words.command {
-        Command::Total => total(alloc, trace, inputs, sink),
+        Command::Total => total(alloc, name, inputs, sink),
         Command::Central => {
             let setting = Setting::of(words);
             match &words.topology {
-                Some(name) => {
-                    central_routed(alloc, trace, name.as_str(), &setting, inputs, sink)
+                Some(topology) => {
+                    central_routed(alloc, name, topology.as_str(), &setting, inputs, sink)
                 }
-                None => central(alloc, trace, &setting, inputs, sink),
+                None => central(alloc, name, &setting, inputs, sink),
             }
         }
+        Command::Check => check_tree(alloc, name, words.names[1].as_str(), inputs, sink),
     }
 }

@@ -1,10 +1,12 @@
 //! The commands of univmon over any inputs and any sink.
 //!
-//! - `status`: `Status` with its number and its line; `topology_line`: the line of a topology's fault
+//! - `status`: `Status` with its number and its line; `topology_line`, `certificate_line`: the lines of the faults of
+//!   a topology and of a certificate
 //! - `total`: the command `total`
 //! - `central`: the command `central`; `topology_file`: its topology; `setting`: its numbers
 //! - `epochs`: a trace as it is sketched; `dividing`: how packets are divided into epochs; `sketching`, `live`: the
 //!   packets of an epoch; `blocks`, `text`: the text
+//! - `checking`: the command `check`; `certificate_file`: its tree
 //! - `stop`: why an input gave no value
 //! - `alone`: `run_alone`, the commands that start nobody
 //!
@@ -14,6 +16,9 @@
 mod alone;
 mod blocks;
 mod central;
+mod certificate_file;
+mod certificate_line;
+mod checking;
 mod dividing;
 mod epochs;
 mod live;

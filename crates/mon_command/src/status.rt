@@ -2,7 +2,9 @@
 ghost use Rattle.std.specs.Prelude.{◌≡◌, IfOk, string_bytes};
 ghost use Rattle.mon_command.specs.Status.{number_of, line_of, pcap_line, trace_line, usage_line};
 
+use crate::certificate_line::certificate_text;
 use crate::topology_line::topology_text;
+use bound_certificate::CertFault;
 use mon_io::Memory;
 use mon_words::UsageFault;
 use pcap_reader::PcapFault;
@@ -22,6 +24,8 @@ pub enum Status {
     Topology(TopologyFault),
     /// The trace is refused, by its first fault in the order of the file.
     Trace(TraceFault),
+    /// The certificate is refused, by its first fault.
+    Certificate(CertFault),
     /// The text could not be written to its end.
     SinkFault,
     /// A growth was refused.
@@ -35,6 +39,8 @@ pub enum Input {
     Topology,
     /// The trace.
     Trace,
+    /// The tree.
+    Tree,
 }
 
 /// Why a trace is refused.
@@ -57,6 +63,7 @@ pub fn status_number(status: &Status) -> u8
         Status::Topology(_) => 4,
         Status::Trace(_) => 5,
         Status::SinkFault => 10,
+        Status::Certificate(_) => 11,
         Status::Memory => 13,
     }
 }
@@ -72,8 +79,10 @@ pub fn status_line(alloc: Global, status: &Status) -> Result<String, Memory>
             String::from_str(alloc, "univmon: cannot read topology")
         }
         Status::ReadFault(Input::Trace) => String::from_str(alloc, "univmon: cannot read trace"),
+        Status::ReadFault(Input::Tree) => String::from_str(alloc, "univmon: cannot read tree"),
         Status::Topology(fault) => topology_text(alloc, *fault),
         Status::Trace(fault) => trace_text(alloc, *fault),
+        Status::Certificate(fault) => certificate_text(alloc, *fault),
         Status::SinkFault => String::from_str(alloc, "univmon: cannot write"),
         Status::Memory => String::from_str(alloc, "univmon: out of memory"),
     };

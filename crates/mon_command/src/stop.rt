@@ -1,6 +1,7 @@
 //! Why an input gave no value.
 
 use crate::TraceFault;
+use bound_certificate::CertFault;
 use topology::TopologyFault;
 
 /// Why a trace was not sketched to its end.
@@ -21,6 +22,17 @@ pub(crate) enum TopologyStop {
     Read,
     /// It is refused, by its first fault.
     Bad(TopologyFault),
+    /// A growth was refused.
+    Memory,
+}
+
+/// Why there is no certificate.
+#[derive(Clone, Copy, Debug, PartialEq, Eq)]
+pub(crate) enum CertificateStop {
+    /// It could not be picked or read.
+    Read,
+    /// It is refused, by its first fault.
+    Bad(CertFault),
     /// A growth was refused.
     Memory,
 }

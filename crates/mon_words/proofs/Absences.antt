@@ -1,10 +1,9 @@
 -- What a parse does not give.
-use Rattle.std.proofs.Common.{◌≡◌, ◌<◌, ℕ, List, [], ◌∷◌, length, map, true, false, true≢false, refl, sym, ap, subst, ◌∙◌, arith, inl, inr, codes, Option, Some, None}
+use Rattle.std.proofs.Common.{◌≡◌, ◌<◌, ℕ, zero, suc, List, [], ◌∷◌, length, drop, map, true, false, true≢false, refl, sym, ap, subst, ◌∙◌, arith, inl, inr, codes, Option, Some, None}
 use Rattle.std.specs.Borrow.{Bor}
 use Rattle.std.specs.Prelude.{bytes_eq, option_map, slice_get}
-use Rattle.std.specs.List.{slice_index_or}
+use Rattle.std.specs.List.{AllByRecursion, slice_index_or}
 use Rattle.std.proofs.lemmas.Bool.{cases_lt}
-use Rattle.std.proofs.lemmas.List.{get_or-map, length-map}
 use Rattle.std.proofs.lemmas.Slice.Eq.{bytes_eq-Decides}
 use Rattle.clap.specs.Built.{IsAuto, IsParsedFrom}
 use Rattle.clap.specs.Facts.{EntryPasses}
@@ -15,11 +14,14 @@ use Rattle.clap.specs.declared.parser.matches.ArgMatches.{ArgMatches}
 use Rattle.clap.specs.declared.parser.matches.MatchedArg.{MatchedArg}
 use Rattle.clap.proofs.CallerLemmas.{entry_by_id}
 use Rattle.clap.proofs.WalkLemmas.{first_value-rows}
-use Rattle.mon_words.specs.Apps.{name_rule, total_app}
+use Rattle.mon_words.specs.Apps.{app_for, check_app, name_ids, name_rule, total_app}
 use Rattle.mon_words.specs.Needs.{IsFresh, IsStrict}
 use Rattle.mon_words.specs.Options.{id_of}
-use Rattle.mon_words.specs.Values.{IsBare}
+use Rattle.mon_words.specs.Values.{IsBare, takes_options}
+use Rattle.mon_words.specs.declared.command.Command as words
+use Rattle.mon_words.specs.declared.command.Command.TheVariants.{Total, Central, Check}
 use Rattle.mon_words.specs.declared.opt.Opt.{Opt}
+use Rattle.mon_words.proofs.Arguments.{differs}
 use Rattle.mon_words.specs.declared.opt.Opt.TheVariants.{Seed, Levels, Rows, Width, Heap, Epoch, Heavy}
 
 no_first : (xs : List (Bor (List ℕ))) → ((y : Bor (List ℕ)) → 0 < length xs → ⊥) → option_map (λ s. s.now) (slice_get xs 0) ≡ None
@@ -62,43 +64,58 @@ no_value app m id strict p fresh named help version = go (matched_of (found_of m
         ] in
         rw e (no_first x.vals.items none)
 
--- the arguments of `total` are the name alone
-fresh_in_total : (app : Command) (id : List ℕ) → app_of app ≡ total_app → bytes_eq (codes "trace") id ≡ false → IsFresh id (args_of app)
-unfolding total_app
-fresh_in_total app id is other k d lt =
-    let rules : map rule_of (args_of app) ≡ name_rule (codes "trace") ∷ [] = ap (λ (a : App). a.top.rules) is in
-    let mapped : length (map rule_of (args_of app)) ≡ 1 = ap (λ (rs : List Rule). length rs) rules in
-    let one : length (args_of app) ≡ 1 = rw length-map at mapped in
-    let first : k ≡ 0 = omega arith in
-    let there : rule_of (slice_index_or (args_of app) k d) ≡ slice_index_or (map rule_of (args_of app)) k (rule_of d) =
-    sym (get_or-map rule_of (args_of app) k d (rule_of d) lt) in
-    let here : slice_index_or (map rule_of (args_of app)) k (rule_of d) ≡ name_rule (codes "trace") =
-    ap (λ (rs : List Rule). slice_index_or rs k (rule_of d)) rules ∙ ap (λ (n : ℕ). slice_index_or (name_rule (codes "trace") ∷ []) n (rule_of d)) first in
-    ap (λ (r : Rule). bytes_eq r.id id) (there ∙ here) ∙ other
+-- an id is none of these
+abbrev Others : List ℕ → List (List ℕ) → Type 0
+Others id names = AllByRecursion (λ name. bytes_eq name id ≡ false) names
 
-differs : (id text : List ℕ) → bytes_eq id text ≡ false → id ≡ text → ⊥
-differs id text other same = true≢false (sym ((bytes_eq-Decides id text).1 same) ∙ other)
+-- no argument of these names alone has another id
+fresh_by_names : (args : List Arg) (names : List (List ℕ)) (id : List ℕ) → map rule_of args ≡ map name_rule names → Others id names → IsFresh id args
+fresh_by_names [] names id is others k d lt = absurd (omega arith)
+fresh_by_names (arg ∷ args) [] id is others k d lt = absurd (cc)
+fresh_by_names (arg ∷ args) (name ∷ names) id is others zero d lt =
+    ap (λ (rules : List Rule). bytes_eq (slice_index_or rules 0 (name_rule name)).id id) is ∙ others.0
+fresh_by_names (arg ∷ args) (name ∷ names) id is others (suc k) d lt =
+    fresh_by_names args names id (ap (λ (rules : List Rule). drop 1 rules) is) others.1 k d (omega arith)
 
-other_than_own : (option : Opt) → (bytes_eq (codes "trace") (id_of option) ≡ false) × (bytes_eq (id_of option) [] ≡ false)
-    × (bytes_eq (id_of option) (codes "help") ≡ false) × (bytes_eq (id_of option) (codes "version") ≡ false)
-other_than_own Seed = (refl, refl, refl, refl)
-other_than_own Levels = (refl, refl, refl, refl)
-other_than_own Rows = (refl, refl, refl, refl)
-other_than_own Width = (refl, refl, refl, refl)
-other_than_own Heap = (refl, refl, refl, refl)
-other_than_own Epoch = (refl, refl, refl, refl)
-other_than_own Heavy = (refl, refl, refl, refl)
+-- the arguments of a command without options are its names alone
+fresh_in : (command : words.Command) (app : Command) (id : List ℕ) → takes_options command ≡ false → app_of app ≡ app_for command → Others id (name_ids command) → IsFresh id (args_of app)
+unfolding total_app check_app
+fresh_in Total app id bare is others = fresh_by_names (args_of app) (name_ids Total) id (ap (λ (a : App). a.top.rules) is) others
+fresh_in Central app id bare is others = absurd (true≢false bare)
+fresh_in Check app id bare is others = fresh_by_names (args_of app) (name_ids Check) id (ap (λ (a : App). a.top.rules) is) others
 
-no_text : (app : Command) (m : ArgMatches) (id : List ℕ) → IsStrict app → IsParsedFrom app m → app_of app ≡ total_app
-    → bytes_eq (codes "trace") id ≡ false → bytes_eq id [] ≡ false → bytes_eq id (codes "help") ≡ false → bytes_eq id (codes "version") ≡ false
-    → first_of id (rows_of (found_of m)) ≡ None
-no_text app m id strict p is other named help version =
+-- an id of an option is that of no name, and none of clap's own
+record IsApart (id : List ℕ) : Type 0 where
+  trace : bytes_eq (codes "trace") id ≡ false
+  network : bytes_eq (codes "network") id ≡ false
+  tree : bytes_eq (codes "tree") id ≡ false
+  some : bytes_eq id [] ≡ false
+  help : bytes_eq id (codes "help") ≡ false
+  version : bytes_eq id (codes "version") ≡ false
+
+are_apart : (option : Opt) → IsApart (id_of option)
+are_apart Seed = record { trace = refl; network = refl; tree = refl; some = refl; help = refl; version = refl }
+are_apart Levels = record { trace = refl; network = refl; tree = refl; some = refl; help = refl; version = refl }
+are_apart Rows = record { trace = refl; network = refl; tree = refl; some = refl; help = refl; version = refl }
+are_apart Width = record { trace = refl; network = refl; tree = refl; some = refl; help = refl; version = refl }
+are_apart Heap = record { trace = refl; network = refl; tree = refl; some = refl; help = refl; version = refl }
+are_apart Epoch = record { trace = refl; network = refl; tree = refl; some = refl; help = refl; version = refl }
+are_apart Heavy = record { trace = refl; network = refl; tree = refl; some = refl; help = refl; version = refl }
+
+other_names : (command : words.Command) (id : List ℕ) → IsApart id → Others id (name_ids command)
+other_names Total id apart = (apart.trace, tt)
+other_names Central id apart = (apart.trace, tt)
+other_names Check id apart = (apart.network, (apart.tree, tt))
+
+no_text : (command : words.Command) (app : Command) (m : ArgMatches) (id : List ℕ) → takes_options command ≡ false → IsStrict app → IsParsedFrom app m → app_of app ≡ app_for command
+    → IsApart id → first_of id (rows_of (found_of m)) ≡ None
+no_text command app m id bare strict p is apart =
     sym (first_value-rows (found_of m) id)
-    ∙ no_value app m id strict p (fresh_in_total app id is other) (differs id [] named) (differs id (codes "help") help) (differs id (codes "version") version)
+    ∙ no_value app m id strict p (fresh_in command app id bare is (other_names command id apart)) (differs id [] apart.some) (differs id (codes "help") apart.help) (differs id (codes "version") apart.version)
 
--- the words of `total` give no option
-pub total_is_bare : (app : Command) (m : ArgMatches) → IsStrict app → IsParsedFrom app m → app_of app ≡ total_app → IsBare (rows_of (found_of m))
-total_is_bare app m strict p is = record {
-  no_topology = no_text app m (codes "topology") strict p is refl refl refl refl;
-  no_option = λ option. let own = other_than_own option in no_text app m (id_of option) strict p is own.0 own.1 own.2 own.3;
+-- the words of a command without options give none
+pub bare_words : (command : words.Command) (app : Command) (m : ArgMatches) → takes_options command ≡ false → IsStrict app → IsParsedFrom app m → app_of app ≡ app_for command → IsBare (rows_of (found_of m))
+bare_words command app m bare strict p is = record {
+  no_topology = no_text command app m (codes "topology") bare strict p is (record { trace = refl; network = refl; tree = refl; some = refl; help = refl; version = refl });
+  no_option = λ option. no_text command app m (id_of option) bare strict p is (are_apart option);
 }

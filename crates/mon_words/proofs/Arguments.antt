@@ -1,5 +1,5 @@
 -- What an argument more keeps of a command of clap, and what a parse gives.
-use Rattle.std.proofs.Common.{◌≡◌, ◌+◌, ◌<◌, ◌≤◌, ℕ, List, [], ◌∷◌, ◌++◌, length, true, false, true≢false, sym, ap, subst, ◌∙◌, arith, inl, inr, codes, ◌||◌, length-append, slice_index, is_some}
+use Rattle.std.proofs.Common.{◌≡◌, ◌+◌, ◌<◌, ◌≤◌, ℕ, List, [], ◌∷◌, ◌++◌, length, true, false, true≢false, sym, ap, subst, ◌∙◌, arith, inl, inr, codes, ◌||◌, length-append, is_some, refl}
 use Rattle.std.specs.Borrow.{Bor}
 use Rattle.std.specs.Prelude.{bytes_eq}
 use Rattle.std.specs.List.{slice_index_or}
@@ -7,13 +7,19 @@ use Rattle.std.proofs.Math.Seq.{get_or-append_seam}
 use Rattle.std.proofs.lemmas.Bool.{cases_lt}
 use Rattle.std.proofs.lemmas.List.{get_or_append_left}
 use Rattle.clap.specs.Built.{AddsArg, IsParsedFrom, IsPlainArg, SameRules, TakesValue}
-use Rattle.clap.specs.Words.{args_of, first_value, found_of}
+use Rattle.clap.specs.Words.{args_of, first_of, first_value, found_of, rows_of}
 use Rattle.clap.specs.declared.builder.action.ArgAction.TheVariants.{Set}
 use Rattle.clap.specs.declared.builder.arg.Arg.{Arg}
 use Rattle.clap.specs.declared.builder.command.Command.{Command}
 use Rattle.clap.specs.declared.parser.matches.ArgMatches.{ArgMatches}
 use Rattle.clap.proofs.CallerLemmas.{added_plain, required_has_value}
-use Rattle.mon_words.specs.Needs.{IsFresh, IsStrict, Needs}
+use Rattle.clap.proofs.WalkLemmas.{first_value-rows}
+use Rattle.std.proofs.lemmas.Slice.Eq.{bytes_eq-Decides}
+use Rattle.mon_words.specs.Apps.{name_ids}
+use Rattle.mon_words.specs.Values.{IsNamed}
+use Rattle.mon_words.specs.declared.command.Command as words
+use Rattle.mon_words.specs.declared.command.Command.TheVariants.{Total, Central, Check}
+use Rattle.mon_words.specs.Needs.{IsFresh, IsStrict, Needs, NeedsEach}
 
 -- an argument that is plain lifts no need
 pub strict_with : (old new : Command) (a : Arg) → AddsArg old a new → IsPlainArg a → a.global ≡ false → IsStrict old → IsStrict new
@@ -64,6 +70,19 @@ needs_with old new a name added other needs =
           ];
     }
 
+-- and leaves an id free
+pub fresh_with : (old new : Command) (a : Arg) (name : List ℕ) → AddsArg old a new → bytes_eq a.id.now name ≡ false → IsFresh name (args_of old) → IsFresh name (args_of new)
+fresh_with old new a name added other fresh k d lt =
+    let old_args = args_of old in
+    let in_both : k < length (old_args ++ added.arg ∷ []) = subst (λ (l : List Arg). k < length l) added.args lt in
+    let free : bytes_eq (slice_index_or (old_args ++ added.arg ∷ []) k d).id.now name ≡ false = elim (cases_lt k (length old_args)) [
+      | inl under ↦ ap (λ (x : Arg). bytes_eq x.id.now name) (left old_args added.arg k d under) ∙ fresh k d under
+      | inr over ↦
+          ap (λ (x : Arg). bytes_eq x.id.now name) (right old_args added.arg k d over in_both).1
+          ∙ (ap (λ (x : Bor (List ℕ)). bytes_eq x.now name) added.rules.id ∙ other)
+    ] in
+    ap (λ (l : List Arg). bytes_eq (slice_index_or l k d).id.now name) added.args ∙ free
+
 -- a new argument is needed
 pub needs_new : (old new : Command) (a : Arg) → AddsArg old a new → IsFresh a.id.now (args_of old) → TakesValue a → Needs a.id.now new
 needs_new old new a added fresh taken =
@@ -94,18 +113,34 @@ some_of : (xs : List Arg) (k : ℕ) → k < length xs → Arg
 some_of [] k lt = absurd (omega arith)
 some_of (x ∷ xs) k lt = x
 
--- where the words are taken, what is needed has a value
-pub name_is_given : (app : Command) (m : ArgMatches) → IsStrict app → Needs (codes "trace") app → IsParsedFrom app m
-    → is_some (first_value (found_of m) (codes "trace")) ≡ true
-name_is_given app m strict needs parsed =
+-- what is needed, with an id that is not of clap's own, has a value where the words are taken
+name_is_given : (id : List ℕ) (app : Command) (m : ArgMatches) → IsStrict app → Needs id app → IsParsedFrom app m
+    → (id ≡ [] → ⊥) → (id ≡ codes "help" → ⊥) → (id ≡ codes "version" → ⊥) → is_some (first_of id (rows_of (found_of m))) ≡ true
+name_is_given id app m strict needs parsed named help version =
     let d = some_of (args_of app) needs.place needs.within in
     let taken = needs.taken d in
     let is = needs.named d in
     let has = required_has_value app m parsed strict.plain strict.local strict.alone needs.place d needs.within taken.0 taken.1 taken.2 taken.3
-    (λ k e lt same. needs.only k e lt (subst (λ (id : List ℕ). bytes_eq (slice_index_or (args_of app) k e).id.now id ≡ true) is same))
-    (λ none. let bad : 5 ≡ 0 = ap (λ (t : List ℕ). length t) (sym is ∙ none) in absurd (omega arith))
+    (λ k e lt same. needs.only k e lt (subst (λ (own : List ℕ). bytes_eq (slice_index_or (args_of app) k e).id.now own ≡ true) is same))
+    (λ none. named (sym is ∙ none))
     (λ auto. elim auto [
-      | inl h ↦ let bad : 116 ≡ 104 = ap (λ (t : List ℕ). slice_index t 0) (sym is ∙ h) in absurd (omega arith)
-      | inr h ↦ let bad : 116 ≡ 118 = ap (λ (t : List ℕ). slice_index t 0) (sym is ∙ h) in absurd (omega arith)
+      | inl h ↦ help (sym is ∙ h)
+      | inr h ↦ version (sym is ∙ h)
     ]) in
-    subst (λ (id : List ℕ). is_some (first_value (found_of m) id) ≡ true) is has
+    ap is_some (sym (first_value-rows (found_of m) id)) ∙ subst (λ (own : List ℕ). is_some (first_value (found_of m) own) ≡ true) is has
+
+-- two texts that don't compare equal
+pub differs : (id text : List ℕ) → bytes_eq id text ≡ false → id ≡ text → ⊥
+differs id text other same = true≢false (sym ((bytes_eq-Decides id text).1 same) ∙ other)
+
+-- where the words are taken, each name is given
+pub names_are_given : (command : words.Command) (app : Command) (m : ArgMatches) → IsStrict app → NeedsEach (name_ids command) app → IsParsedFrom app m
+    → IsNamed command (rows_of (found_of m))
+names_are_given Total app m strict needs parsed =
+    (name_is_given (codes "trace") app m strict needs.0 parsed (differs (codes "trace") [] refl) (differs (codes "trace") (codes "help") refl) (differs (codes "trace") (codes "version") refl), tt)
+names_are_given Central app m strict needs parsed =
+    (name_is_given (codes "trace") app m strict needs.0 parsed (differs (codes "trace") [] refl) (differs (codes "trace") (codes "help") refl) (differs (codes "trace") (codes "version") refl), tt)
+names_are_given Check app m strict needs parsed = (
+  name_is_given (codes "network") app m strict needs.0 parsed (differs (codes "network") [] refl) (differs (codes "network") (codes "help") refl) (differs (codes "network") (codes "version") refl),
+  (name_is_given (codes "tree") app m strict needs.1.0 parsed (differs (codes "tree") [] refl) (differs (codes "tree") (codes "help") refl) (differs (codes "tree") (codes "version") refl), tt),
+)

@@ -1,10 +1,9 @@
 -- What is read where no option is given.
-use Rattle.std.proofs.Common.{◌≡◌, List, refl, ap, subst, ◌∙◌, Option, Some, None, Result, Ok, Err, MatchResult, IfOk, rules}
+use Rattle.std.proofs.Common.{◌≡◌, List, refl, ap, subst, ◌∙◌, Option, Some, None, Result, Ok, Err, MatchResult, IfOk, false, rules}
 use Rattle.std.specs.Option.{option_map_or}
 use Rattle.clap.specs.Words.{Row}
-use Rattle.mon_words.specs.Values.{Explains, HasDefaults, IsBare, Values, first_refused, read_of, values_in}
+use Rattle.mon_words.specs.Values.{Explains, HasDefaults, IsBare, Values, first_refused, read_of, takes_options, values_in}
 use Rattle.mon_words.specs.declared.command.Command.{Command}
-use Rattle.mon_words.specs.declared.command.Command.TheVariants.{Total}
 use Rattle.mon_words.specs.declared.opt.Opt.{Opt}
 use Rattle.mon_words.specs.declared.usage_fault.UsageFault.TheVariants.{Value}
 use Rattle.mon_words.specs.declared.words_fault.WordsFault.{WordsFault}
@@ -30,15 +29,15 @@ read_values command rows values = go (first_refused command rows)
     go None e = search rules
     go (Some option) e = cc
 
--- where `total` is read and nothing but its name is given, each option has its default
-total_defaults : (command : Command) (rows : List Row) (values : Values) → (command ≡ Total → IsBare rows) → read_of command rows ≡ Ok values → values.command ≡ Total → HasDefaults values
-total_defaults command rows values bare read total =
+-- where a command takes no option, each has its default
+bare_defaults : (command : Command) (rows : List Row) (values : Values) → (takes_options command ≡ false → IsBare rows) → read_of command rows ≡ Ok values → takes_options values.command ≡ false → HasDefaults values
+bare_defaults command rows values bare read none =
     let is = read_values command rows values read in
-    let own : command ≡ Total = ap (λ (v : Values). v.command) is ∙ total in
+    let own : takes_options command ≡ false = ap (λ (v : Values). takes_options v.command) is ∙ none in
     subst (λ (v : Values). HasDefaults v) is (bare_values command rows (bare own))
 
-pub total_holds_defaults : (command : Command) (rows : List Row) (result : Result Values WordsFault) → (command ≡ Total → IsBare rows)
+pub bare_holds_defaults : (command : Command) (rows : List Row) (result : Result Values WordsFault) → (takes_options command ≡ false → IsBare rows)
     → MatchResult result (λ read. read_of command rows ≡ Ok read) (Explains (read_of command rows))
-    → IfOk result (λ read. read.command ≡ Total → HasDefaults read)
-total_holds_defaults command rows (Ok values) bare asked = λ total. total_defaults command rows values bare asked total
-total_holds_defaults command rows (Err fault) bare asked = tt
+    → IfOk result (λ read. takes_options read.command ≡ false → HasDefaults read)
+bare_holds_defaults command rows (Ok values) bare asked = λ none. bare_defaults command rows values bare asked none
+bare_holds_defaults command rows (Err fault) bare asked = tt

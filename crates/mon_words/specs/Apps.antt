@@ -1,9 +1,9 @@
 -- The words that each command takes, as a definition of the crate clap.
-use Rattle.std.specs.Prelude.{true, List, Some, ℕ, codes}
+use Rattle.std.specs.Prelude.{true, List, [], ◌∷◌, Some, ℕ, codes}
 use Rattle.clap.specs.Words.{App, Rule, new_app, new_rule, with_rule}
 use Rattle.clap.specs.declared.builder.action.ArgAction.TheVariants.{Set}
 use Rattle.mon_words.specs.declared.command.Command.{Command}
-use Rattle.mon_words.specs.declared.command.Command.TheVariants.{Total, Central}
+use Rattle.mon_words.specs.declared.command.Command.TheVariants.{Total, Central, Check}
 
 -- a word that has to stand in its place
 abbrev pub name_rule : List ℕ → Rule
@@ -40,6 +40,17 @@ with_trace_options app = with_option (codes "topology") (with_option (codes "hea
 unfoldable pub central_app : App
 central_app = with_trace_options (with_sketch_options (with_name (codes "trace") (bare_app (codes "central"))))
 
+-- `check` takes the names of a topology and of a tree; `topology` is the id of an option
+unfoldable pub check_app : App
+check_app = with_name (codes "tree") (with_name (codes "network") (bare_app (codes "check")))
+
+-- the ids of the names that a command takes, in order
+abbrev pub name_ids : Command → List (List ℕ)
+name_ids Total = codes "trace" ∷ []
+name_ids Central = codes "trace" ∷ []
+name_ids Check = codes "network" ∷ codes "tree" ∷ []
+
 abbrev pub app_for : Command → App
 app_for Total = total_app
 app_for Central = central_app
+app_for Check = check_app

@@ -1,6 +1,6 @@
 -- What a command of clap asks of every call.
 use Rattle.std.specs.Prelude.{◌≡◌, ◌<◌, ℕ, List, length, true, false, bytes_eq}
-use Rattle.std.specs.List.{slice_index_or}
+use Rattle.std.specs.List.{AllByRecursion, slice_index_or}
 use Rattle.clap.specs.Built.{TakesValue}
 use Rattle.clap.specs.Words.{IsPlain, args_of}
 use Rattle.clap.specs.declared.builder.arg.Arg.{Arg}
@@ -24,3 +24,7 @@ pub record Needs (id : List ℕ) (app : Command) : Type 0 where
   pub named : (d : Arg) → (slice_index_or (args_of app) place d).id.now ≡ id
   pub taken : (d : Arg) → TakesValue (slice_index_or (args_of app) place d)
   pub only : (k : ℕ) (d : Arg) → k < length (args_of app) → bytes_eq (slice_index_or (args_of app) k d).id.now id ≡ true → k ≡ place
+
+-- each of these ids is needed
+abbrev pub NeedsEach : List (List ℕ) → Command → Type 0
+NeedsEach ids app = AllByRecursion (λ id. Needs id app) ids

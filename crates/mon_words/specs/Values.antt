@@ -1,13 +1,14 @@
 -- What the words of a call ask for.
-use Rattle.std.specs.Prelude.{◌≡◌, ◌≤◌, ◌==◌, ℕ, List, [], ◌∷◌, length, find, bytes_eq, codes, Bool, false, Option, Some, None, IfSome, is_none, Result, Ok, Err, IsTrue, ⊤, if◌then◌else◌}
+use Rattle.std.specs.Prelude.{◌≡◌, ◌≤◌, ◌==◌, ℕ, List, [], ◌∷◌, length, find, bytes_eq, codes, Bool, true, false, Option, Some, None, IfSome, is_none, is_some, Result, Ok, Err, IsTrue, ⊤, if◌then◌else◌}
+use Rattle.std.specs.List.{AllByRecursion, flat_map}
 use Rattle.std.specs.Option.{option_map, option_map_or}
 use Rattle.std.specs.Str.Parse.{digits_value}
 use Rattle.clap.specs.Words.{Row, fault_of, first_of, matches_of}
 use Rattle.hash_family.specs.Limits.{is_rows, is_width}
-use Rattle.mon_words.specs.Apps.{app_for}
+use Rattle.mon_words.specs.Apps.{app_for, name_ids}
 use Rattle.mon_words.specs.Options.{default_heap, id_of, is_in_range, number_if, options}
 use Rattle.mon_words.specs.declared.command.Command.{Command}
-use Rattle.mon_words.specs.declared.command.Command.TheVariants.{Total, Central}
+use Rattle.mon_words.specs.declared.command.Command.TheVariants.{Total, Central, Check}
 use Rattle.mon_words.specs.declared.opt.Opt.{Opt}
 use Rattle.mon_words.specs.declared.opt.Opt.TheVariants.{Seed, Levels, Rows, Width, Heap, Epoch, Heavy}
 use Rattle.mon_words.specs.declared.usage_fault.UsageFault.{UsageFault}
@@ -28,9 +29,22 @@ pub record Values : Type 0 where
   pub epoch : Option ℕ
   pub heavy : ℕ
 
--- the numbers are within their limits, where a heap of 0 keeps all live keys, and there is one name
+-- how many names a command takes
+abbrev pub name_count : Command → ℕ
+name_count Total = 1
+name_count Central = 1
+name_count Check = 2
+
+-- whether a command takes options
+abbrev pub takes_options : Command → Bool
+takes_options Total = false
+takes_options Central = true
+takes_options Check = false
+
+-- the numbers are within their limits, where a heap of 0 keeps all live keys, and there are as many names as the
+-- command takes
 pub record IsInRange (values : Values) : Type 0 where
-  pub one_name : length values.names ≡ 1
+  pub names : length values.names ≡ name_count values.command
   pub levels_up_to : values.levels ≤ 16
   pub are_rows : IsTrue (is_rows values.rows)
   pub are_wide : IsTrue (is_width values.width)
@@ -55,6 +69,7 @@ abbrev pub command_of : List ℕ → Option Command
 command_of word =
     if bytes_eq word (codes "total") then Some Total
     else if bytes_eq word (codes "central") then Some Central
+    else if bytes_eq word (codes "check") then Some Check
     else None
 
 -- clap's definition of the command takes the words behind its name
@@ -70,6 +85,10 @@ pub record IsBare (rows : List Row) : Type 0 where
   pub no_topology : first_of (codes "topology") rows ≡ None
   pub no_option : (option : Opt) → first_of (id_of option) rows ≡ None
 
+-- each name of the command is given
+abbrev pub IsNamed : Command → List Row → Type 0
+IsNamed command rows = AllByRecursion (λ id. is_some (first_of id rows) ≡ true) (name_ids command)
+
 -- an option is given a value that is not a number in its range
 abbrev pub is_refused : Command → List Row → Opt → Bool
 is_refused command rows option =
@@ -83,11 +102,19 @@ first_refused command rows = find (is_refused command rows) options
 abbrev pub number_or : List Row → Opt → ℕ → ℕ
 number_or rows option default = option_map_or (digits_value 10) (first_of (id_of option) rows) default
 
+-- the name with this id, where it is given
+abbrev pub name_in : List Row → List ℕ → List (List ℕ)
+name_in rows id = option_map_or (λ name. name ∷ []) (first_of id rows) []
+
+-- the names that the command takes, in order
+abbrev pub names_in : Command → List Row → List (List ℕ)
+names_in command rows = flat_map (name_in rows) (name_ids command)
+
 -- the names, the texts and the numbers, each that is not given with its default
 abbrev pub values_in : Command → List Row → Values
 values_in command rows = record {
   command = command;
-  names = option_map_or (λ trace. trace ∷ []) (first_of (codes "trace") rows) [];
+  names = names_in command rows;
   topology = first_of (codes "topology") rows;
   seed = number_or rows Seed 1;
   levels = number_or rows Levels 12;

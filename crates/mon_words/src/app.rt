@@ -2,7 +2,7 @@
 ghost use Rattle.std.specs.Prelude.{◌≡◌, ℕ, List, [], IfOk, codes, bytes_eq, true, false};
 ghost use Rattle.clap.specs.Built.{IsPlainArg, TakesValue};
 ghost use Rattle.clap.specs.Words.{app_of, args_of, rule_of};
-ghost use Rattle.mon_words.specs.Apps.{bare_app, central_app, name_rule, option_rule, total_app, with_name, with_option, with_sketch_options, with_trace_options};
+ghost use Rattle.mon_words.specs.Apps.{bare_app, central_app, check_app, name_rule, option_rule, total_app, with_name, with_option, with_sketch_options, with_trace_options};
 ghost use Rattle.mon_words.specs.Needs.{IsFresh, IsStrict, Needs};
 
 use clap::{Arg, ArgAction, Command};
@@ -29,6 +29,18 @@ pub(crate) fn central_app<'a>(alloc: Global) -> Result<Command<'a>, AllocError>
     let app = with_sketch_options(alloc, app)?;
     let app = with_trace_options(alloc, app)?;
     Ok(app)
+}
+
+/// The words behind `check`.
+#[tactic(auto, unfolding(crate::specs::Apps::check_app))]
+pub(crate) fn check_app<'a>(alloc: Global) -> Result<Command<'a>, AllocError>
+    ensures app { IfOk result (λ app. app_of app ≡ check_app) }
+    ensures strict { IfOk result IsStrict }
+    ensures network { IfOk result (Needs (codes "network")) }
+    ensures tree { IfOk result (Needs (codes "tree")) }
+{
+    let app = with_name(alloc, bare_app(alloc, "check"), "network")?;
+    with_name(alloc, app, "tree")
 }
 
 // With the options of a sketch.
@@ -81,6 +93,9 @@ fn with_name<'a>(alloc: Global, app: Command<'a>, id: &'a str) -> Result<Command
     ensures app { IfOk result (λ more. app_of more ≡ with_name id.entry.now (app_of app.entry)) }
     ensures strict { IfOk result IsStrict }
     ensures needs { IfOk result (Needs id.entry.now) }
+    ensures others { (name : List ℕ) → bytes_eq id.entry.now name ≡ false → Needs name app.entry → IfOk result (Needs name) }
+    ensures free { (name : List ℕ) → bytes_eq id.entry.now name ≡ false → IsFresh name (args_of app.entry)
+        → IfOk result (λ more. IsFresh name (args_of more)) }
 {
     app.arg(name_arg(alloc, id))
 }

@@ -10,6 +10,8 @@ pub enum Command {
     Total,
     /// `central`: sketches a trace.
     Central,
+    /// `check`: checks a tree against a topology.
+    Check,
 }
 
 impl Command {
@@ -21,6 +23,8 @@ impl Command {
             Some(Command::Total)
         } else if word == "central" {
             Some(Command::Central)
+        } else if word == "check" {
+            Some(Command::Check)
         } else {
             None
         }
@@ -34,6 +38,7 @@ impl Command {
         match self {
             Command::Total => 64,
             Command::Central => 0,
+            Command::Check => 64,
         }
     }
 
@@ -42,7 +47,7 @@ impl Command {
         ensures number { result ≡ least_heap self }
     {
         match self {
-            Command::Total => 1,
+            Command::Total | Command::Check => 1,
             Command::Central => 0,
         }
     }

@@ -1,13 +1,13 @@
 //! What clap reads in the words behind a command.
-ghost use Rattle.std.specs.Prelude.{◌≡◌, IfOk, IfErr, IfSome, MatchResult, true, false, is_some, map, string_bytes, codes, option_map};
+ghost use Rattle.std.specs.Prelude.{◌≡◌, IfOk, IfErr, IfSome, MatchResult, true, false, map, string_bytes, option_map};
 ghost use Rattle.std.specs.Str.Parse.{digits_value};
 ghost use Rattle.clap.specs.Words.{app_of, first_of, found_of, rows_of};
-ghost use Rattle.mon_words.specs.Apps.{app_for};
-ghost use Rattle.mon_words.specs.Needs.{IsStrict, Needs};
+ghost use Rattle.mon_words.specs.Apps.{app_for, name_ids};
+ghost use Rattle.mon_words.specs.Needs.{IsStrict, NeedsEach};
 ghost use Rattle.mon_words.specs.Options.{id_of, is_in_range};
-ghost use Rattle.mon_words.specs.Values.{Explains, IsBare, is_refused, is_taken, number_or, rest_of, rows_in};
+ghost use Rattle.mon_words.specs.Values.{Explains, IsBare, IsNamed, is_refused, is_taken, number_or, rest_of, rows_in, takes_options};
 
-use crate::app::{central_app, total_app};
+use crate::app::{central_app, check_app, total_app};
 use crate::numeral::number;
 use crate::{Command, Opt, UsageFault, WordsFault};
 use clap::ArgMatches;
@@ -22,8 +22,8 @@ pub(crate) fn matches_in<'a>(
 ) -> Result<ArgMatches<'a>, WordsFault>
     ensures taken { IfOk result (λ _. is_taken command (map string_bytes words.now) ≡ true) }
     ensures rows { IfOk result (λ matches. rows_of (found_of matches) ≡ rows_in command (map string_bytes words.now)) }
-    ensures named { IfOk result (λ _. is_some (first_of (codes "trace") (rows_in command (map string_bytes words.now))) ≡ true) }
-    ensures bare { IfOk result (λ _. command ≡ Command.Total → IsBare (rows_in command (map string_bytes words.now))) }
+    ensures named { IfOk result (λ _. IsNamed command (rows_in command (map string_bytes words.now))) }
+    ensures bare { IfOk result (λ _. takes_options command ≡ false → IsBare (rows_in command (map string_bytes words.now))) }
     ensures refused { IfErr result (Explains (rest_of command (map string_bytes words.now))) }
 {
     let Ok(app) = app_for(alloc, command) else {
@@ -42,11 +42,12 @@ pub(crate) fn matches_in<'a>(
 fn app_for<'a>(alloc: Global, command: Command) -> Result<clap::Command<'a>, AllocError>
     ensures app { IfOk result (λ app. app_of app ≡ app_for command) }
     ensures strict { IfOk result IsStrict }
-    ensures needs { IfOk result (Needs (codes "trace")) }
+    ensures needs { IfOk result (NeedsEach (name_ids command)) }
 {
     match command {
         Command::Total => total_app(alloc),
         Command::Central => central_app(alloc),
+        Command::Check => check_app(alloc),
     }
 }
 

@@ -28,6 +28,9 @@ fn refuses_words(rt: HostRuntime) -> Result<(), Fail> {
         ("central A --rows 2 --ep 60", UsageFault::Refused),
         ("total", UsageFault::Refused),
         ("total A --seed 1", UsageFault::Refused),
+        ("check T", UsageFault::Refused),
+        ("check T C D", UsageFault::Refused),
+        ("check T C --seed 1", UsageFault::Refused),
     ] {
         let fault = WordsFault::Usage(fault);
         assert_eq!(rt; read(rt.alloc(), line)?.err(), Some(fault), "{line}");
@@ -85,6 +88,18 @@ fn takes_words(rt: HostRuntime) -> Result<(), Fail> {
     Ok(())
 }
 
+#[test]
+fn takes_two_names(rt: HostRuntime) -> Result<(), Fail> {
+    for (line, topology, tree) in [("check T C", "T", "C"), ("check -- - C", "-", "C")] {
+        let words = read(rt.alloc(), line)?.ok().expect(&rt, line);
+        assert_eq!(rt; words.command, Command::Check, "{line}");
+        assert_eq!(rt; words.names.len(), 2, "{line}");
+        assert_eq!(rt; words.names[0].as_str(), topology, "{line}");
+        assert_eq!(rt; words.names[1].as_str(), tree, "{line}");
+    }
+    Ok(())
+}
+
 // Seed, levels, rows, width, heap and heavy.
 fn numbers(words: &Words) -> [u64; 6] {
     [
@@ -102,6 +117,7 @@ fn reads_numbers(rt: HostRuntime) -> Result<(), Fail> {
     for (line, command, topology, want) in [
         ("total A", Command::Total, None, [1, 12, 5, 1024, 64, 10]),
         ("central A", Command::Central, None, [1, 12, 5, 1024, 0, 10]),
+        ("check T A", Command::Check, None, [1, 12, 5, 1024, 64, 10]),
         (
             "central A --seed 18446744073709551615 --levels 16 --rows 7 --width 2048 --heap 1024 --heavy 1000",
             Command::Central,

@@ -1,10 +1,10 @@
 //! The words of a call, read.
-ghost use Rattle.std.specs.Prelude.{◌≡◌, ◌≤◌, Ok, [], ◌∷◌, IfOk, IfErr, IfSome, MatchResult, true, false, is_some, map, string_bytes, codes};
-ghost use Rattle.std.specs.Option.{option_map, option_map_or};
+ghost use Rattle.std.specs.Prelude.{◌≡◌, ◌≤◌, ◌++◌, Ok, IfOk, IfErr, OnOk, IfSome, MatchResult, true, false, length, map, string_bytes, codes};
+ghost use Rattle.std.specs.Option.{option_map};
 ghost use Rattle.std.specs.Str.Parse.{digits_value};
 ghost use Rattle.clap.specs.Words.{first_of, found_of, rows_of};
 ghost use Rattle.mon_words.specs.Options.{id_of};
-ghost use Rattle.mon_words.specs.Values.{Explains, HasDefaults, IsInRange, is_refused, read_of, rest_of, words_of};
+ghost use Rattle.mon_words.specs.Values.{Explains, HasDefaults, IsInRange, IsNamed, is_refused, name_count, name_in, names_in, read_of, rest_of, takes_options, words_of};
 
 use crate::matches::{matches_in, number_given, number_or, text_of};
 use crate::{Command, Opt, UsageFault, WordsFault};
@@ -17,7 +17,7 @@ use std::marker::Model;
 #[derive(Debug, Drop)]
 pub struct Words {
     pub command: Command,
-    /// One name, of a trace.
+    /// One name, of a trace; for `check` two, of a topology and of a tree.
     pub names: Vec<String>,
     /// `--topology`, any text.
     pub topology: Option<String>,
@@ -67,7 +67,7 @@ pub fn read_words(alloc: Global, words: &[String]) -> Result<Words, WordsFault>
         (λ read. words_of (map string_bytes words.now) ≡ Ok read)
         (Explains (words_of (map string_bytes words.now))) }
     ensures range { IfOk result IsInRange }
-    ensures defaults { IfOk result (λ read. read.command ≡ Command.Total → HasDefaults read) }
+    ensures defaults { IfOk result (λ read. takes_options read.command ≡ false → HasDefaults read) }
 {
     let [first, rest @ ..] = words else {
         return Err(WordsFault::Usage(UsageFault::NoCommand));
@@ -84,7 +84,7 @@ fn read_rest(alloc: Global, command: Command, words: &[String]) -> Result<Words,
         (λ read. rest_of command (map string_bytes words.now) ≡ Ok read)
         (Explains (rest_of command (map string_bytes words.now))) }
     ensures range { IfOk result IsInRange }
-    ensures defaults { IfOk result (λ read. read.command ≡ Command.Total → HasDefaults read) }
+    ensures defaults { IfOk result (λ read. takes_options read.command ≡ false → HasDefaults read) }
 {
     let matches = matches_in(alloc, command, words)?;
     read_matches(alloc, command, &matches)
@@ -96,13 +96,13 @@ fn read_matches(
     command: Command,
     matches: &ArgMatches<'_>,
 ) -> Result<Words, WordsFault>
-    requires named { is_some (first_of (codes "trace") (rows_of (found_of matches.now))) ≡ true }
+    requires named { IsNamed command (rows_of (found_of matches.now)) }
     ensures asked { MatchResult result
         (λ read. read_of command (rows_of (found_of matches.now)) ≡ Ok read)
         (Explains (read_of command (rows_of (found_of matches.now)))) }
     ensures range { IfOk result IsInRange }
 {
-    let Ok(names) = names_in(alloc, matches) else {
+    let Ok(names) = names_in(alloc, matches, command) else {
         return Err(WordsFault::Memory);
     };
     let Ok(topology) = topology_in(alloc, matches) else {
@@ -130,15 +130,40 @@ fn read_matches(
 }
 
 // The names in order.
-fn names_in(alloc: Global, matches: &ArgMatches<'_>) -> Result<Vec<String>, AllocError>
-    ensures names { IfOk result (λ names. map string_bytes names.items
-        ≡ option_map_or (λ trace. trace ∷ []) (first_of (codes "trace") (rows_of (found_of matches.now))) []) }
+fn names_in(
+    alloc: Global,
+    matches: &ArgMatches<'_>,
+    command: Command,
+) -> Result<Vec<String>, AllocError>
+    requires named { IsNamed command (rows_of (found_of matches.now)) }
+    ensures names { IfOk result (λ names. map string_bytes names.items ≡ names_in command (rows_of (found_of matches.now))) }
+    ensures count { IfOk result (λ names. length (map string_bytes names.items) ≡ name_count command) }
 {
     let mut names = Vec::new(alloc);
-    if let Some(trace) = text_of(matches, "trace") {
-        names.push(String::from_str(alloc, trace)?)?;
+    match command {
+        Command::Total | Command::Central => add_name(alloc, matches, "trace", &mut names)?,
+        Command::Check => {
+            add_name(alloc, matches, "network", &mut names)?;
+            add_name(alloc, matches, "tree", &mut names)?;
+        }
     }
     Ok(names)
+}
+
+// Appends the name with this id, where it is given.
+fn add_name(
+    alloc: Global,
+    matches: &ArgMatches<'_>,
+    id: &str,
+    names: &mut Vec<String>,
+) -> Result<(), AllocError>
+    ensures names { OnOk result (map string_bytes names.new.items
+        ≡ map string_bytes names.old.items ++ name_in (rows_of (found_of matches.now)) id.now) }
+{
+    if let Some(name) = text_of(matches, id) {
+        names.push(String::from_str(alloc, name)?)?;
+    }
+    Ok(())
 }
 
 // The name of a topology.

@@ -1,10 +1,8 @@
-use Rattle.std.proofs.Common.{◌≡◌, List, sym, ap, subst, ◌∙◌, refl, map, string_bytes, codes, is_some}
-use Rattle.clap.specs.Words.{App, HasKind, Row, app_of, fault_of, first_of, found_of, is_simple, is_simple_and_free, matches_of}
-use Rattle.clap.proofs.WalkLemmas.{first_value-rows}
-use Rattle.mon_words.specs.Apps.{app_for, total_app}
-use Rattle.mon_words.specs.Values.{IsBare}
-use Rattle.mon_words.proofs.Absences.{total_is_bare}
-use Rattle.mon_words.proofs.Arguments.{name_is_given}
+use Rattle.std.proofs.Common.{sym, ap, subst, ◌∙◌, refl, map, string_bytes}
+use Rattle.clap.specs.Words.{App, HasKind, fault_of, is_simple, is_simple_and_free, matches_of}
+use Rattle.mon_words.specs.Values.{IsBare, IsNamed}
+use Rattle.mon_words.proofs.Absences.{bare_words}
+use Rattle.mon_words.proofs.Arguments.{names_are_given}
 use Rattle.mon_words.proofs.Refusals.{is_exact, is_known, not_taken, read, taken}
 use Rattle.mon_words.proofs.matches.matches_in.Goals as goal
 
@@ -26,10 +24,8 @@ pub returns-in-Ok-try_get_matches_from-clause-named :
     goal.returns-in-Ok-try_get_matches_from-clause-named
 returns-in-Ok-try_get_matches_from-clause-named c =
     let matches = c.in-Ok-try_get_matches_from.matches in
-    let given = name_is_given c.in-Ok.app matches c.in-Ok.ensures.strict c.in-Ok.ensures.needs c.in-Ok-try_get_matches_from.ensures.parsed in
-    let by_rows = first_value-rows (found_of matches) (codes "trace")
-    ∙ ap (λ (rows : List Row). first_of (codes "trace") rows) (returns-in-Ok-try_get_matches_from-clause-rows c) in
-    sym (ap is_some by_rows) ∙ given
+    subst (IsNamed c.args.command) (returns-in-Ok-try_get_matches_from-clause-rows c)
+    (names_are_given c.args.command c.in-Ok.app matches c.in-Ok.ensures.strict c.in-Ok.ensures.needs c.in-Ok-try_get_matches_from.ensures.parsed)
 
 pub returns : goal.returns
 returns c =
@@ -41,7 +37,7 @@ returns c =
 
 pub returns-in-Ok-try_get_matches_from-clause-bare :
     goal.returns-in-Ok-try_get_matches_from-clause-bare
-returns-in-Ok-try_get_matches_from-clause-bare c = λ total.
+returns-in-Ok-try_get_matches_from-clause-bare c = λ none.
     let matches = c.in-Ok-try_get_matches_from.matches in
-    let app_is : app_of c.in-Ok.app ≡ total_app = c.in-Ok.ensures.app ∙ ap app_for total in
-    subst IsBare (returns-in-Ok-try_get_matches_from-clause-rows c) (total_is_bare c.in-Ok.app matches c.in-Ok.ensures.strict c.in-Ok-try_get_matches_from.ensures.parsed app_is)
+    subst IsBare (returns-in-Ok-try_get_matches_from-clause-rows c)
+    (bare_words c.args.command c.in-Ok.app matches none c.in-Ok.ensures.strict c.in-Ok-try_get_matches_from.ensures.parsed c.in-Ok.ensures.app)
