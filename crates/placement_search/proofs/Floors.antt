@@ -1,8 +1,8 @@
 -- The floor's own dual is right, and its value is at least the floor.
-use Rattle.std.proofs.Common.{◌≡◌, ℕ, zero, suc, ◌+◌, ◌-◌, ◌*◌, ◌≤◌, ◌<◌, Bool, true, false, cond, ◌==◌, ◌||◌, List, [], ◌∷◌, length, slice_index, slice_index_or, Option, None, Some, pos, ◌-ℤ◌, min, inl, inr, refl, sym, ◌∙◌, ap, arith, mul-zero}
-use Rattle.std.specs.Prelude.{fold, int_le, nat_lt}
+use Rattle.std.proofs.Common.{◌≡◌, ℕ, zero, suc, ◌+◌, ◌-◌, ◌*◌, ◌≤◌, ◌<◌, Bool, true, false, cond, ◌==◌, List, length, slice_index, slice_index_or, Option, None, Some, pos, ◌-ℤ◌, inl, inr, refl, ◌∙◌, ap, subst, arith, mul-zero}
+use Rattle.std.specs.Prelude.{int_le, nat_lt}
 use Rattle.std.specs.Option.{option_or}
-use Rattle.std.proofs.lemmas.Bool.{cases_Bool, eqb-true}
+use Rattle.std.proofs.lemmas.Bool.{cases_Bool}
 use Rattle.std.proofs.lemmas.Bool.Decides.{nat_tests}
 use Rattle.std.proofs.lemmas.Int.{ints}
 use Rattle.std.proofs.lemmas.List.{get_or_default}
@@ -11,33 +11,16 @@ use Rattle.bound_certificate.specs.Problem.{Problem, site_count, need_count, cap
 use Rattle.bound_certificate.specs.Placement.{AreChoices, service, cost}
 use Rattle.bound_certificate.specs.Node.{excess, dual_sum, dual_limit, is_breached, dual_breach, priced_capacity_by, dual_credit, dual_debit, dual_value}
 use Rattle.bound_certificate.specs.Floor.{least_by, need_price, floor_by, floor}
+use Rattle.bound_certificate.proofs.FloorLaw.{least_at}
+use Rattle.bound_certificate.proofs.Fitting.{has-place}
 use Rattle.bound_certificate.proofs.Sums.{sum_below-le, sum_below-same, sum_below-zero, sum-index}
 use Rattle.placement_search.specs.Leaf.{IsFloorDual, IsDual}
 
 -- the least number of a list is at most each
-abbrev least_from : (ℕ → ℕ) → ℕ → List ℕ → ℕ
-least_from f start xs = fold (λ least x. min least (f x)) start xs
-
-least_start : (f : ℕ → ℕ) (start : ℕ) (xs : List ℕ) → least_from f start xs ≤ start
-least_start f start [] = omega arith
-least_start f start (x ∷ xs) =
-    let rest = least_start f (min start (f x)) xs in
-    grind (arith, nat_tests, rest)
-
-least_each : (f : ℕ → ℕ) (start : ℕ) (xs : List ℕ) (x : ℕ) → has xs x ≡ true → least_from f start xs ≤ f x
-unfolding has
-least_each f start [] x stands = cc
-least_each f start (y ∷ ys) x stands = elim (cases_Bool (y == x)) [
-  | inl same ↦
-      let here : f y ≡ f x = ap f (eqb-true y x same) in
-      let rest = least_start f (min start (f y)) ys in
-      grind (arith, nat_tests, rest, here)
-  | inr other ↦ least_each f (min start (f y)) ys x (sym (ap (λ (b : Bool). b || has ys x) other) ∙ stands)
-]
-
 least_by-le : (f : ℕ → ℕ) (xs : List ℕ) (x : ℕ) → has xs x ≡ true → least_by f xs ≤ f x
-unfolding least_by
-least_by-le f xs x stands = least_each f (f (slice_index xs 0)) xs x stands
+least_by-le f xs x stands =
+    let place = has-place xs x stands in
+    subst (λ (y : ℕ). least_by f xs ≤ f y) place.1.is (least_at f xs place.0 place.1.within)
 
 -- no number below n passes
 first_below-none : (test : ℕ → Bool) (n : ℕ) → ((i : ℕ) → i < n → test i ≡ false) → first_below test n ≡ None

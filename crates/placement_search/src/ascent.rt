@@ -3,26 +3,29 @@
 ghost use Rattle.std.specs.Prelude.{◌<◌, ◌≤◌};
 ghost use Rattle.bound_certificate.specs.Problem.{site_count, need_count};
 
+use crate::capacity_prices::CapacityPrices;
 use bound_certificate::{Problem, dual_limit};
 
 /// How often each lambda is raised at most.
 const ROUNDS: u32 = 64;
 
-/// The lambda of each need, and what is left of each site's limit.
+/// The lambda of each need, and what is left of each site's limit, under prices of the capacities.
 #[derive(Drop)]
 pub struct Ascent {
     levels: [u64; 64],
     slack: [u64; 32],
+    prices: CapacityPrices,
 }
 
 impl Ascent {
     /// The raised lambdas of the needs without a choice. Each starts at the least that its need costs. In each
     /// round each is raised to the next cost of its need at a site, or as far as the least limit of the sites
     /// that cost no more than it.
-    pub fn new(problem: &Problem, choices: &[u8]) -> Ascent {
+    pub fn new(problem: &Problem, choices: &[u8], prices: &CapacityPrices) -> Ascent {
         let mut ascent = Ascent {
-            levels: least_levels(problem),
+            levels: least_levels(problem, prices),
             slack: limits(problem, choices),
+            prices: *prices,
         };
         for _ in 0..ROUNDS {
             if !ascent.raise_all(problem, choices.len()) {
@@ -46,6 +49,49 @@ impl Ascent {
             sum = sum.saturating_add(self.levels[need]);
         }
         sum
+    }
+
+    /// What the lambdas of all needs are above the prices of all capacities.
+    pub fn value(&self, problem: &Problem, prices: &CapacityPrices) -> u64 {
+        let mut debit: u64 = 0;
+        for site in 0..problem.site_count() {
+            let capacity = u64::from(problem.capacity(usize::from(site)));
+            debit = debit.saturating_add(prices.at(site).saturating_mul(capacity));
+        }
+        self.total(problem, 0).saturating_sub(debit)
+    }
+
+    /// The load that each site would have, were each need at the cheapest site of its via that is paid for.
+    pub fn demand(&self, problem: &Problem) -> [u64; 32] {
+        let mut demand = [0; 32];
+        for need in 0..usize::from(problem.need_count()) {
+            let place = usize::from(self.cheapest(problem, need) % 32);
+            let load = u64::from(problem.load(need));
+            demand[place] = load.saturating_add(demand[place]);
+        }
+        demand
+    }
+
+    // The cheapest site of a need's via whose limit is used up, or else the cheapest of all.
+    fn cheapest(&self, problem: &Problem, need: usize) -> u8
+        requires { need < need_count problem.now }
+    {
+        let mut cheapest = problem.via(need)[0];
+        let mut least = u64::MAX;
+        for site in problem.via(need) {
+            let own = cost(problem, &self.prices, *site, need);
+            let is_paid = self.slack[usize::from(*site % 32)] == 0 && own <= self.levels[need % 64];
+            let ranked = if is_paid {
+                own
+            } else {
+                own.saturating_add(1 << 60)
+            };
+            if ranked < least {
+                least = ranked;
+                cheapest = *site;
+            }
+        }
+        cheapest
     }
 
     // Raises each lambda once; whether one rose.
@@ -81,7 +127,7 @@ impl Ascent {
         let level = self.levels[need];
         let mut step = u64::MAX;
         for site in problem.via(need) {
-            let price = problem.service(usize::from(*site), need);
+            let price = cost(problem, &self.prices, *site, need);
             if level < price {
                 step = step.min(price - level);
             } else {
@@ -98,7 +144,7 @@ impl Ascent {
         let _count = problem.site_count();
         let level = self.levels[need];
         for site in problem.via(need) {
-            if problem.service(usize::from(*site), need) <= level {
+            if cost(problem, &self.prices, *site, need) <= level {
                 let left = self.slack[usize::from(*site)];
                 self.slack[usize::from(*site)] = left.saturating_sub(step);
             }
@@ -106,21 +152,31 @@ impl Ascent {
     }
 }
 
+// What a need costs at a site, with its part of the capacity.
+fn cost(problem: &Problem, prices: &CapacityPrices, site: u8, need: usize) -> u64
+    requires site { site < site_count problem.now }
+    requires need { need < need_count problem.now }
+{
+    let load = u64::from(problem.load(need));
+    let service = problem.service(usize::from(site), need);
+    service.saturating_add(load.saturating_mul(prices.at(site)))
+}
+
 // The least that each need costs at a site of its via.
-fn least_levels(problem: &Problem) -> [u64; 64] {
+fn least_levels(problem: &Problem, prices: &CapacityPrices) -> [u64; 64] {
     let mut levels = [0; 64];
     for need in 0..usize::from(problem.need_count()) {
-        levels[need] = least_service(problem, need);
+        levels[need] = least_cost(problem, prices, need);
     }
     levels
 }
 
-fn least_service(problem: &Problem, need: usize) -> u64
+fn least_cost(problem: &Problem, prices: &CapacityPrices, need: usize) -> u64
     requires { need < need_count problem.now }
 {
     let mut least = u64::MAX;
     for site in problem.via(need) {
-        least = least.min(problem.service(usize::from(*site), need));
+        least = least.min(cost(problem, prices, *site, need));
     }
     least
 }

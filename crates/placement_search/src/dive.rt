@@ -5,6 +5,7 @@ ghost use Rattle.bound_certificate.specs.Placement.{AreChoices};
 ghost use Rattle.bound_certificate.specs.Sums.{has};
 
 use crate::ascent::Ascent;
+use crate::capacity_prices::CapacityPrices;
 use bound_certificate::{Numbers, Problem, cost_of, is_over};
 
 // A site for the next need, and what the cost would be at least.
@@ -74,7 +75,7 @@ fn estimate(problem: &Problem, choices: &Numbers, site: u8) -> Option<Guess>
         return None;
     }
     let cost = cost_of(problem, sites);
-    let later = Ascent::new(problem, sites).total(problem, sites.len());
+    let later = Ascent::new(problem, sites, &CapacityPrices::none()).total(problem, sites.len());
     Some(Guess {
         site,
         estimate: cost.saturating_add(later),

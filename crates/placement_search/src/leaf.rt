@@ -39,7 +39,7 @@ pub fn leaf_at(
         let leaf = hall(alloc, &names)?;
         return Ok(Some(leaf));
     }
-    let prices = prices_at(alloc, problem, choices.as_slice())?;
+    let prices = prices_at(alloc, problem, choices.as_slice(), &progress.capacities)?;
     if !is_closed(problem, choices.as_slice(), &prices, progress) {
         return Ok(None);
     }

@@ -1,14 +1,16 @@
 //! The prices of a Dual leaf.
-ghost use Rattle.std.specs.Prelude.{◌≡◌, ◌<◌, ◌≤◌, ◌+◌, ◌-◌, ◌^◌, ℕ, length, slice_index, All, IfOk};
+ghost use Rattle.std.specs.Prelude.{◌≡◌, ◌<◌, ◌≤◌, ◌-◌, ◌^◌, ℕ, length, slice_index, All, IfOk};
 ghost use Rattle.bound_certificate.specs.Problem.{site_count, need_count};
 ghost use Rattle.bound_certificate.specs.Placement.{AreChoices};
-ghost use Rattle.bound_certificate.specs.Floor.{need_price, floor_by};
+ghost use Rattle.bound_certificate.specs.Floor.{floor_by};
 ghost use Rattle.bound_certificate.specs.Prices.{ArePrices};
 ghost use Rattle.std.specs.Bool.{OnTrue};
 ghost use Rattle.placement_search.specs.Leaf.{IsFloorDual, IsDual};
 
 use crate::ascent::Ascent;
-use bound_certificate::{Problem, dual_breach, dual_limit, dual_value};
+use crate::capacity_prices::CapacityPrices;
+use bound_certificate::floors::floor_by;
+use bound_certificate::{Problem, dual_breach, dual_value};
 use mon_io::Memory;
 use sqlite_items::Items;
 use std::alloc::Global;
@@ -23,31 +25,73 @@ pub struct Prices {
 }
 
 /// Prices whose dual is right and whose value is at least the node's floor.
-pub fn prices_at(alloc: Global, problem: &Problem, choices: &[u8]) -> Result<Prices, Memory>
+pub fn prices_at(
+    alloc: Global,
+    problem: &Problem,
+    choices: &[u8],
+    capacities: &CapacityPrices,
+) -> Result<Prices, Memory>
     requires { AreChoices problem.now choices.now }
     ensures dual { IfOk result (λ prices. IsDual problem.now choices.now prices.lambda prices.mu) }
 {
     // Its sites are within their limits, so that each via names one of them.
     let _sites = problem.sites();
-    let floor = floor_prices(alloc, problem, choices)?;
-    let raised = raised_prices(alloc, problem, choices)?;
-    if is_better(problem, choices, &raised, &floor) {
-        return Ok(raised);
-    }
-    Ok(floor)
+    let floor = floor_dual(alloc, problem, choices)?;
+    let free = CapacityPrices::none();
+    let raised = better_prices(alloc, problem, choices, &free, floor)?;
+    better_prices(alloc, problem, choices, capacities, raised)
 }
 
-// A guess at prices of a greater value.
-fn raised_prices(alloc: Global, problem: &Problem, choices: &[u8]) -> Result<Prices, Memory> {
+// These right prices, or raised ones of a greater value under prices of the capacities.
+fn better_prices(
+    alloc: Global,
+    problem: &Problem,
+    choices: &[u8],
+    capacities: &CapacityPrices,
+    prices: Prices,
+) -> Result<Prices, Memory>
+    requires choices { AreChoices problem.now choices.now }
+    requires dual { IsDual problem.now choices.now prices.lambda prices.mu }
+    ensures dual { IfOk result (λ better. IsDual problem.now choices.now better.lambda better.mu) }
+{
+    let raised = raised_prices(alloc, problem, choices, capacities)?;
+    if is_better(problem, choices, &raised, &prices) {
+        return Ok(raised);
+    }
+    Ok(prices)
+}
+
+// A guess at prices of a greater value, under prices of the capacities.
+fn raised_prices(
+    alloc: Global,
+    problem: &Problem,
+    choices: &[u8],
+    capacities: &CapacityPrices,
+) -> Result<Prices, Memory> {
     let mut lambda = Items::new(alloc);
-    let ascent = Ascent::new(problem, choices);
+    let ascent = Ascent::new(problem, choices, capacities);
     for need in choices.len()..usize::from(problem.need_count()) {
         if lambda.push(ascent.level(need)).is_err() {
             return Err(Memory);
         }
     }
-    let mu = free_sites(alloc, problem)?;
+    let mu = priced_sites(alloc, problem, capacities)?;
     Ok(Prices { lambda, mu })
+}
+
+// The price of each site.
+fn priced_sites(
+    alloc: Global,
+    problem: &Problem,
+    capacities: &CapacityPrices,
+) -> Result<Items<u64>, Memory> {
+    let mut mu = Items::new(alloc);
+    for site in 0..problem.site_count() {
+        if mu.push(capacities.at(site)).is_err() {
+            return Err(Memory);
+        }
+    }
+    Ok(mu)
 }
 
 // Whether prices are right and of a greater value than these right ones.
@@ -95,6 +139,15 @@ fn are_small(numbers: &[u64]) -> bool
     true
 }
 
+// The prices whose value is the node's floor, as a right dual.
+fn floor_dual(alloc: Global, problem: &Problem, choices: &[u8]) -> Result<Prices, Memory>
+    requires { AreChoices problem.now choices.now }
+    ensures dual { IfOk result (λ prices. IsDual problem.now choices.now prices.lambda prices.mu) }
+{
+    let floor = floor_prices(alloc, problem, choices)?;
+    Ok(floor)
+}
+
 // The prices whose value is the node's floor.
 fn floor_prices(alloc: Global, problem: &Problem, choices: &[u8]) -> Result<Prices, Memory>
     requires { AreChoices problem.now choices.now }
@@ -116,7 +169,7 @@ fn least_prices(alloc: Global, problem: &Problem, choices: &[u8]) -> Result<Item
     let mut lambda = Items::new(alloc);
     let later = usize::from(problem.need_count()) - choices.len();
     for j in 0..later {
-        let least = least_price(problem, choices, j);
+        let least = floor_by(problem, choices, j);
         if lambda.push(least).is_err() {
             return Err(Memory);
         }
@@ -136,37 +189,4 @@ fn free_sites(alloc: Global, problem: &Problem) -> Result<Items<u64>, Memory>
         }
     }
     Ok(mu)
-}
-
-// The least that a later need costs at a site of its via.
-#[tactic(auto, unfolding(bound_certificate::specs::Floor::floor_by, bound_certificate::specs::Floor::least_by))]
-fn least_price(problem: &Problem, choices: &[u8], j: usize) -> u64
-    requires need { length choices.now + j < need_count problem.now }
-    requires few { need_count problem.now ≤ 64 }
-    ensures value { result ≡ floor_by problem.now choices.now j }
-    ensures bound { result ≤ 2 ^ 33 }
-{
-    let via = problem.via(choices.len() + j);
-    let mut least = price_at(problem, choices, j, via[0]);
-    for site in via {
-        least = least.min(price_at(problem, choices, j, *site));
-    }
-    least
-}
-
-// What a later need costs at a site: its service, and for the first one the opening.
-#[tactic(auto, unfolding(bound_certificate::specs::Floor::need_price))]
-fn price_at(problem: &Problem, choices: &[u8], j: usize, site: u8) -> u64
-    requires need { length choices.now + j < need_count problem.now }
-    requires few { need_count problem.now ≤ 64 }
-    requires site { site < site_count problem.now }
-    ensures value { result ≡ need_price problem.now choices.now j site }
-    ensures bound { result ≤ 2 ^ 33 }
-{
-    let service = problem.service(usize::from(site), choices.len() + j);
-    if j == 0 {
-        service + u64::from(dual_limit(problem, choices, site))
-    } else {
-        service
-    }
 }

@@ -3,6 +3,7 @@ ghost use Rattle.std.specs.Prelude.{◌≡◌, ◌⊎◌, None, Some, IfSome, Is
 ghost use Rattle.bound_certificate.specs.Placement.{AreChoices};
 ghost use Rattle.bound_certificate.specs.Outcome.{is_no_better, is_beaten};
 
+use crate::capacity_prices::CapacityPrices;
 use bound_certificate::{Numbers, Placement, Problem, complete, cost_of, fits};
 use mon_io::Memory;
 use sqlite_items::Items;
@@ -17,6 +18,8 @@ pub struct Progress {
     pub sites: Numbers,
     /// How many Branch nodes are left.
     pub left: u32,
+    /// A guess at the prices of the capacities.
+    pub capacities: CapacityPrices,
 }
 
 impl Progress {
@@ -31,6 +34,7 @@ impl Progress {
             cost: None,
             sites: Numbers::new(),
             left: nodes,
+            capacities: CapacityPrices::none(),
         }
     }
 

@@ -11,8 +11,11 @@ ghost use Rattle.placement_search.specs.Searched.{IsTreeSearched};
 ghost use Rattle.placement_search.specs.Shown.{IsSettled, unplaced, concluded};
 
 use crate::branching::search_at;
+use crate::capacity_prices::CapacityPrices;
 use crate::dive::dive;
+use crate::loads::Loads;
 use crate::progress::Progress;
+use crate::walk::walk;
 use bound_certificate::{Numbers, Outcome, Placement, Problem, Tree, check, is_crowded, later};
 use mon_io::Memory;
 use sqlite_items::Items;
@@ -56,7 +59,7 @@ fn crowded_out(alloc: Global, names: &Numbers) -> Result<Outcome, Memory>
     }
 }
 
-// The better placement of first fit's and a dive's, if there is one, and all nodes left.
+// The best placement of first fit's, a dive's and a walk's, if there is one, and all nodes left.
 fn begin(alloc: Global, problem: &Problem, nodes: u32) -> Result<Progress, Memory>
     ensures kept { IfOk result (IsKept problem.now) }
     ensures left { IfOk result (λ progress. progress.left ≡ nodes) }
@@ -64,7 +67,15 @@ fn begin(alloc: Global, problem: &Problem, nodes: u32) -> Result<Progress, Memor
     let mut progress = Progress::new(nodes);
     progress.offer(problem, &Numbers::new());
     offer_dive(alloc, problem, &mut progress)?;
+    offer_walk(alloc, problem, &mut progress)?;
+    progress.capacities = CapacityPrices::guess(problem, unit_cost(problem, &progress));
     Ok(progress)
+}
+
+// What a unit of load costs in the best placement, or in one of the first sites where there is none.
+fn unit_cost(problem: &Problem, progress: &Progress) -> u64 {
+    let loads = Loads::of(problem, progress.sites.as_slice());
+    (loads.total(problem).cost / loads.carried().max(1)).max(1)
 }
 
 // Offers a dive's placement, if it finds one.
@@ -73,6 +84,17 @@ fn offer_dive(alloc: Global, problem: &Problem, progress: &mut Progress) -> Resu
     ensures left { progress.new.left ≡ progress.old.left }
 {
     let Some(sites) = dive(problem) else {
+        return Ok(());
+    };
+    progress.offer_sites(alloc, problem, sites)
+}
+
+// Offers the placement of a walk from the best one, if it finds any.
+fn offer_walk(alloc: Global, problem: &Problem, progress: &mut Progress) -> Result<(), Memory>
+    ensures kept { IsKept problem.now progress.old → IsKept problem.now progress.new }
+    ensures left { progress.new.left ≡ progress.old.left }
+{
+    let Some(sites) = walk(problem, progress.sites.as_slice()) else {
         return Ok(());
     };
     progress.offer_sites(alloc, problem, sites)

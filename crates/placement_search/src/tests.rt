@@ -3,6 +3,7 @@
 use crate::search;
 use bound_certificate::{
     Need, Outcome, OutcomeFault, Problem, Site, Tree, Verdict, check_outcome, is_formed, is_within,
+    read_tree_text, tree_text,
 };
 use sqlite_items::Items;
 use std::alloc::{AllocError, Global};
@@ -148,4 +149,21 @@ fn a_generated_problem(rt: HostRuntime) -> Result<(), Fail> {
     assert_eq!(rt; found.bound, Some(1765));
     assert_eq!(rt; found.branches, 0);
     Ok(())
+}
+
+// The text of a search's tree, behind other lines, is read as a tree with the same text.
+fn reads_back(rt: &impl Abort, alloc: Global, problem: &Problem) -> Result<(), Fail> {
+    let outcome = search(alloc, problem, 1024).expect(rt, "ample memory");
+    let text = tree_text(alloc, outcome.tree()).expect(rt, "ample memory");
+    let page = format!(in alloc; "univmon place 1\nnodes 1024\n{text}")?;
+    let tree = read_tree_text(alloc, page.as_bytes()).map_err(|_| "a tree's text")?;
+    let again = tree_text(alloc, &tree).expect(rt, "ample memory");
+    assert_eq!(rt; again, text);
+    Ok(())
+}
+
+#[test]
+fn trees_are_read_back(rt: HostRuntime) -> Result<(), Fail> {
+    reads_back(&rt, rt.alloc(), &too_coarse(&rt, rt.alloc())?)?;
+    reads_back(&rt, rt.alloc(), &generated(&rt, rt.alloc())?)
 }

@@ -26,7 +26,7 @@ search_at-returns t c = record {
   searched = let p = c.args.problem.now in
       let cs = c.args.choices.now in
       let mid = c.offer.new.self in
-      let spent : Progress = record { cost = mid.cost; sites = mid.sites; left = mid.left - 1 } in
+      let spent : Progress = record { cost = mid.cost; sites = mid.sites; left = mid.left - 1; capacities = mid.capacities } in
       let unclosed : IsOpen p cs mid = subst (λ found. MatchOption found (IsOpen p cs mid) (IsLeaf p cs mid)) c.in_default.is c.in_ok-found.ensures.found in
       let kept = kept_on p c.args.progress.now mid c.requires.kept c.offer.ensures.no_worse c.offer.ensures.best in
       branch_searched p cs c.args.progress.now mid spent c.search_children.new.progress c.in_ok-children.children c.sites-sites.ensures.within c.requires.room unclosed

@@ -1,0 +1,145 @@
+//! A site for each need, and what these choices put on the sites. Nothing is claimed of it: what it helps to find is
+//! tested before it is taken. Sums that are too large stay at their greatest.
+
+use bound_certificate::{Numbers, Problem};
+
+/// A cost, and how much load is above capacities.
+#[derive(Clone, Copy)]
+pub struct Price {
+    pub cost: u64,
+    pub over: u64,
+}
+
+impl Price {
+    /// Both together.
+    pub fn plus(self, other: Price) -> Price {
+        Price {
+            cost: self.cost.saturating_add(other.cost),
+            over: self.over.saturating_add(other.over),
+        }
+    }
+
+    /// What is left of it without a part.
+    pub fn less(self, part: Price) -> Price {
+        Price {
+            cost: self.cost.saturating_sub(part.cost),
+            over: self.over.saturating_sub(part.over),
+        }
+    }
+
+    /// The cost, with so much for each unit of load above a capacity.
+    pub fn with_penalty(self, penalty: u64) -> u64 {
+        self.cost.saturating_add(self.over.saturating_mul(penalty))
+    }
+}
+
+/// A site for each need, with each site's load and the number of needs that it serves.
+#[derive(Drop)]
+pub struct Loads {
+    sites: [u8; 64],
+    carried: [u64; 32],
+    served: [u32; 32],
+}
+
+impl Loads {
+    /// The loads of these choices; a need without one has the first site of its via.
+    pub fn of(problem: &Problem, choices: &[u8]) -> Loads {
+        let mut loads = Loads {
+            sites: [0; 64],
+            carried: [0; 32],
+            served: [0; 32],
+        };
+        for need in 0..problem.need_count() {
+            let place = usize::from(need);
+            let site = match choices.get(place) {
+                Some(site) => *site,
+                None => problem.via(place)[0],
+            };
+            loads.add(problem, need, site);
+        }
+        loads
+    }
+
+    /// The site of a need.
+    pub fn site(&self, need: u8) -> u8 {
+        self.sites[usize::from(need % 64)]
+    }
+
+    /// Gives a need another site.
+    pub fn put(&mut self, problem: &Problem, need: u8, site: u8) {
+        self.take(problem, need);
+        self.add(problem, need, site);
+    }
+
+    /// What a site costs with its loads, and how much they are above its capacity.
+    pub fn price(&self, problem: &Problem, site: u8) -> Price {
+        let Some(numbers) = problem.sites().get(usize::from(site)) else {
+            return Price { cost: 0, over: 0 };
+        };
+        let place = usize::from(site % 32);
+        let carried = self.carried[place];
+        let service = carried.saturating_mul(u64::from(numbers.unit));
+        let opening = if self.served[place] == 0 {
+            0
+        } else {
+            u64::from(numbers.opening)
+        };
+        Price {
+            cost: service.saturating_add(opening),
+            over: carried.saturating_sub(u64::from(numbers.capacity)),
+        }
+    }
+
+    /// The same of all sites together.
+    pub fn total(&self, problem: &Problem) -> Price {
+        let mut total = Price { cost: 0, over: 0 };
+        for site in 0..problem.site_count() {
+            total = total.plus(self.price(problem, site));
+        }
+        total
+    }
+
+    /// The load on all sites together.
+    pub fn carried(&self) -> u64 {
+        let mut sum: u64 = 0;
+        for carried in &self.carried {
+            sum = sum.saturating_add(*carried);
+        }
+        sum
+    }
+
+    /// The sites of the needs, in their order.
+    pub fn choices(&self, problem: &Problem) -> Numbers {
+        let mut choices = Numbers::new();
+        for need in 0..problem.need_count() {
+            if choices.len() < 64 {
+                choices.push(self.site(need));
+            }
+        }
+        choices
+    }
+
+    // Puts a need's load on a site.
+    fn add(&mut self, problem: &Problem, need: u8, site: u8) {
+        let place = usize::from(site % 32);
+        self.carried[place] = self.carried[place].saturating_add(load(problem, need));
+        self.served[place] = self.served[place].saturating_add(1);
+        self.sites[usize::from(need % 64)] = site;
+    }
+
+    // Takes a need's load off its site.
+    fn take(&mut self, problem: &Problem, need: u8) {
+        let place = usize::from(self.site(need) % 32);
+        self.carried[place] = self.carried[place].saturating_sub(load(problem, need));
+        self.served[place] = self.served[place].saturating_sub(1);
+    }
+}
+
+// The load of a need.
+fn load(problem: &Problem, need: u8) -> u64 {
+    if need < problem.need_count() {
+        u64::from(problem.load(usize::from(need)))
+    } else {
+        0
+    }
+}
