@@ -1,6 +1,6 @@
 //! A guess at the prices of a dual: lambdas raised as long as the sites' limits allow it. Nothing is claimed of
 //! them here; what takes them tests them.
-ghost use Rattle.std.specs.Prelude.{◌<◌, ◌≤◌};
+ghost use Rattle.std.specs.Prelude.{◌≡◌, ◌<◌, ◌≤◌, slice_index};
 ghost use Rattle.bound_certificate.specs.Problem.{site_count, need_count};
 
 use crate::capacity_prices::CapacityPrices;
@@ -21,7 +21,7 @@ impl Ascent {
     /// The raised lambdas of the needs without a choice. Each starts at the least that its need costs. In each
     /// round each is raised to the next cost of its need at a site, or as far as the least limit of the sites
     /// that cost no more than it.
-    pub fn new(problem: &Problem, choices: &[u8], prices: &CapacityPrices) -> Ascent {
+    pub(crate) fn new(problem: &Problem, choices: &[u8], prices: &CapacityPrices) -> Ascent {
         let mut ascent = Ascent {
             levels: least_levels(problem, prices),
             slack: limits(problem, choices),
@@ -38,12 +38,13 @@ impl Ascent {
     /// The lambda of a need.
     pub fn level(&self, need: usize) -> u64
         requires { need < 64 }
+        ensures value { result ≡ slice_index self.now.levels need }
     {
         self.levels[need]
     }
 
     /// The sum of the lambdas of the needs from this one on.
-    pub fn total(&self, problem: &Problem, from: usize) -> u64 {
+    pub(crate) fn total(&self, problem: &Problem, from: usize) -> u64 {
         let mut sum: u64 = 0;
         for need in from..usize::from(problem.need_count()) {
             sum = sum.saturating_add(self.levels[need]);
@@ -52,7 +53,7 @@ impl Ascent {
     }
 
     /// What the lambdas of all needs are above the prices of all capacities.
-    pub fn value(&self, problem: &Problem, prices: &CapacityPrices) -> u64 {
+    pub(crate) fn value(&self, problem: &Problem, prices: &CapacityPrices) -> u64 {
         let mut debit: u64 = 0;
         for site in 0..problem.site_count() {
             let capacity = u64::from(problem.capacity(usize::from(site)));
@@ -62,7 +63,7 @@ impl Ascent {
     }
 
     /// The load that each site would have, were each need at the cheapest site of its via that is paid for.
-    pub fn demand(&self, problem: &Problem) -> [u64; 32] {
+    pub(crate) fn demand(&self, problem: &Problem) -> [u64; 32] {
         let mut demand = [0; 32];
         for need in 0..usize::from(problem.need_count()) {
             let place = usize::from(self.cheapest(problem, need) % 32);

@@ -1,5 +1,7 @@
-//! A guess at prices of the sites' capacities, under which the dual of the root is great. Nothing is claimed of it: what
-//! takes the prices tests them.
+//! A guess at prices of the sites' capacities, under which the dual of the root is great. How great isn't claimed:
+//! what takes the prices tests them.
+ghost use Rattle.std.specs.Prelude.{◌≡◌, ◌==◌, ◌%◌, slice_index, true};
+ghost use Rattle.std.specs.List.{list_all};
 
 use crate::ascent::Ascent;
 use bound_certificate::Problem;
@@ -18,17 +20,21 @@ pub struct CapacityPrices {
 
 impl CapacityPrices {
     /// No price.
-    pub fn none() -> CapacityPrices {
+    pub fn none() -> CapacityPrices
+        ensures free { list_all (λ price. price == 0) result.mu ≡ true }
+    {
         CapacityPrices { mu: [0; 32] }
     }
 
     /// The price of a site's unit.
-    pub fn at(&self, site: u8) -> u64 {
+    pub fn at(&self, site: u8) -> u64
+        ensures value { result ≡ slice_index self.now.mu (site % 32) }
+    {
         self.mu[usize::from(site % 32)]
     }
 
     /// The best prices of a search by demand and then site by site. A unit of load costs about so much.
-    pub fn guess(problem: &Problem, unit: u64) -> CapacityPrices {
+    pub(crate) fn guess(problem: &Problem, unit: u64) -> CapacityPrices {
         let mut best = Trial::of(problem, CapacityPrices::none());
         best.follow_demand(problem, unit);
         let mut change = unit.saturating_mul(4).max(1);

@@ -17,7 +17,10 @@ struct Guess {
 
 /// A site of its via for each need, in order: the one with room left whose estimate is the least. None where some
 /// need finds none. Takes no memory.
-pub fn dive(problem: &Problem) -> Option<Numbers> {
+pub fn dive(problem: &Problem) -> Option<Numbers>
+    ensures chosen { IfSome result (AreChoices problem.now) }
+    ensures all { IfSome result (λ sites. length sites ≡ need_count problem.now) }
+{
     // Its sites are within their limits, so that it has few needs.
     let _sites = problem.sites();
     let mut choices = Numbers::new();

@@ -1,5 +1,7 @@
-//! A site for each need, and what these choices put on the sites. Nothing is claimed of it: what it helps to find is
-//! tested before it is taken. Sums that are too large stay at their greatest.
+//! A site for each need, and what these choices put on the sites. What it helps to find is tested before it is taken.
+//! Sums that are too large stay at their greatest.
+ghost use Rattle.std.specs.Prelude.{◌≡◌, ◌<◌, ◌+◌, ◌-◌, ◌*◌, ◌%◌, ◌^◌, ℕ, min, take, length, slice_index, slice_set};
+ghost use Rattle.bound_certificate.specs.Problem.{need_count, site_count, capacity};
 
 use bound_certificate::{Numbers, Problem};
 
@@ -12,7 +14,10 @@ pub struct Price {
 
 impl Price {
     /// Both together.
-    pub fn plus(self, other: Price) -> Price {
+    pub fn plus(self, other: Price) -> Price
+        ensures cost { result.cost ≡ min (self.cost + other.cost) (2 ^ 64 - 1) }
+        ensures over { result.over ≡ min (self.over + other.over) (2 ^ 64 - 1) }
+    {
         Price {
             cost: self.cost.saturating_add(other.cost),
             over: self.over.saturating_add(other.over),
@@ -20,7 +25,10 @@ impl Price {
     }
 
     /// What is left of it without a part.
-    pub fn less(self, part: Price) -> Price {
+    pub fn less(self, part: Price) -> Price
+        ensures cost { result.cost ≡ self.cost - part.cost }
+        ensures over { result.over ≡ self.over - part.over }
+    {
         Price {
             cost: self.cost.saturating_sub(part.cost),
             over: self.over.saturating_sub(part.over),
@@ -28,7 +36,9 @@ impl Price {
     }
 
     /// The cost, with so much for each unit of load above a capacity.
-    pub fn with_penalty(self, penalty: u64) -> u64 {
+    pub fn with_penalty(self, penalty: u64) -> u64
+        ensures value { result ≡ min (self.cost + min (self.over * penalty) (2 ^ 64 - 1)) (2 ^ 64 - 1) }
+    {
         self.cost.saturating_add(self.over.saturating_mul(penalty))
     }
 }
@@ -43,7 +53,10 @@ pub struct Loads {
 
 impl Loads {
     /// The loads of these choices; a need without one has the first site of its via.
-    pub fn of(problem: &Problem, choices: &[u8]) -> Loads {
+    pub fn of(problem: &Problem, choices: &[u8]) -> Loads
+        ensures sites { (need : ℕ) → need < need_count problem.now → need < length choices.now →
+            slice_index result.sites need ≡ slice_index choices.now need }
+    {
         let mut loads = Loads {
             sites: [0; 64],
             carried: [0; 32],
@@ -61,18 +74,26 @@ impl Loads {
     }
 
     /// The site of a need.
-    pub fn site(&self, need: u8) -> u8 {
+    pub fn site(&self, need: u8) -> u8
+        ensures value { result ≡ slice_index self.now.sites (need % 64) }
+    {
         self.sites[usize::from(need % 64)]
     }
 
     /// Gives a need another site.
-    pub fn put(&mut self, problem: &Problem, need: u8, site: u8) {
+    pub fn put(&mut self, problem: &Problem, need: u8, site: u8)
+        ensures sites { self.new.sites ≡ slice_set self.old.sites (need % 64) site }
+    {
         self.take(problem, need);
         self.add(problem, need, site);
     }
 
     /// What a site costs with its loads, and how much they are above its capacity.
-    pub fn price(&self, problem: &Problem, site: u8) -> Price {
+    #[tactic(auto, unfolding(bound_certificate::specs::Problem::capacity))]
+    pub fn price(&self, problem: &Problem, site: u8) -> Price
+        ensures over { site < site_count problem.now →
+            result.over ≡ slice_index self.now.carried site - capacity problem.now site }
+    {
         let Some(numbers) = problem.sites().get(usize::from(site)) else {
             return Price { cost: 0, over: 0 };
         };
@@ -91,7 +112,7 @@ impl Loads {
     }
 
     /// The same of all sites together.
-    pub fn total(&self, problem: &Problem) -> Price {
+    pub(crate) fn total(&self, problem: &Problem) -> Price {
         let mut total = Price { cost: 0, over: 0 };
         for site in 0..problem.site_count() {
             total = total.plus(self.price(problem, site));
@@ -100,7 +121,7 @@ impl Loads {
     }
 
     /// The load on all sites together.
-    pub fn carried(&self) -> u64 {
+    pub(crate) fn carried(&self) -> u64 {
         let mut sum: u64 = 0;
         for carried in &self.carried {
             sum = sum.saturating_add(*carried);
@@ -109,18 +130,21 @@ impl Loads {
     }
 
     /// The sites of the needs, in their order.
-    pub fn choices(&self, problem: &Problem) -> Numbers {
+    pub fn choices(&self, problem: &Problem) -> Numbers
+        ensures value { result ≡ take (need_count problem.now) self.now.sites }
+        ensures all { length result ≡ need_count problem.now }
+    {
         let mut choices = Numbers::new();
         for need in 0..problem.need_count() {
-            if choices.len() < 64 {
-                choices.push(self.site(need));
-            }
+            choices.push(self.site(need));
         }
         choices
     }
 
     // Puts a need's load on a site.
-    fn add(&mut self, problem: &Problem, need: u8, site: u8) {
+    fn add(&mut self, problem: &Problem, need: u8, site: u8)
+        ensures sites { self.new.sites ≡ slice_set self.old.sites (need % 64) site }
+    {
         let place = usize::from(site % 32);
         self.carried[place] = self.carried[place].saturating_add(load(problem, need));
         self.served[place] = self.served[place].saturating_add(1);
@@ -128,7 +152,9 @@ impl Loads {
     }
 
     // Takes a need's load off its site.
-    fn take(&mut self, problem: &Problem, need: u8) {
+    fn take(&mut self, problem: &Problem, need: u8)
+        ensures sites { self.new.sites ≡ self.old.sites }
+    {
         let place = usize::from(self.site(need) % 32);
         self.carried[place] = self.carried[place].saturating_sub(load(problem, need));
         self.served[place] = self.served[place].saturating_sub(1);

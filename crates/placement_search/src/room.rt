@@ -12,7 +12,7 @@ pub struct Room {
 
 impl Room {
     /// The sites' capacities, less the loads of the needs that have a choice.
-    pub fn beside(problem: &Problem, choices: &[u8]) -> Room {
+    pub(crate) fn beside(problem: &Problem, choices: &[u8]) -> Room {
         let mut room = Room {
             left: capacities(problem),
         };
@@ -32,7 +32,7 @@ impl Room {
     }
 
     /// Whether the sites of a need's via have less left than these needs' loads.
-    pub fn is_short(&self, problem: &Problem, need: usize, names: &[u8]) -> bool
+    pub(crate) fn is_short(&self, problem: &Problem, need: usize, names: &[u8]) -> bool
         requires { need < need_count problem.now }
     {
         self.left_at(problem.via(need)) < total_load(problem, names)

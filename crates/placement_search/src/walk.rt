@@ -1,6 +1,8 @@
 //! A guess at a good placement: a walk among neighbouring choices, which may step up in cost by less and less
-//! (threshold accepting, Dueck and Scheuer 1990). Nothing is claimed of it: what it finds is tested before it is
+//! (threshold accepting, Dueck and Scheuer 1990). How good it is isn't claimed: what it finds is tested before it is
 //! taken.
+ghost use Rattle.std.specs.Prelude.{◌≡◌, None, IfSome, length};
+ghost use Rattle.bound_certificate.specs.Problem.{need_count};
 
 use crate::loads::{Loads, Price};
 use bound_certificate::{Numbers, Problem, has};
@@ -16,7 +18,9 @@ const SEED: u64 = 1;
 
 /// The best placement within capacities that a walk from these choices comes by, if any; a need without a choice
 /// begins at the first site of its via. Takes no memory.
-pub fn walk(problem: &Problem, start: &[u8]) -> Option<Numbers> {
+pub fn walk(problem: &Problem, start: &[u8]) -> Option<Numbers>
+    ensures all { IfSome result (λ sites. length sites ≡ need_count problem.now) }
+{
     let mut walk = Walker::new(problem, start);
     let mut draws = Xoshiro256PlusPlus::seed_from_u64(SEED);
     for left in (0..walk.steps).rev() {
@@ -64,7 +68,9 @@ impl Step {
 impl Walker {
     // The first step may raise the cost by twice the mean cost of a need. The mean load above a capacity counts eight
     // times that.
-    fn new(problem: &Problem, start: &[u8]) -> Walker {
+    fn new(problem: &Problem, start: &[u8]) -> Walker
+        ensures none { result.best ≡ None }
+    {
         let loads = Loads::of(problem, start);
         let price = loads.total(problem);
         let needs = u64::from(problem.need_count());
@@ -82,7 +88,9 @@ impl Walker {
     }
 
     // Takes a drawn step where it does not raise the cost by more than it may with so many steps left.
-    fn try_step(&mut self, problem: &Problem, draws: &mut Xoshiro256PlusPlus, left: u64) {
+    fn try_step(&mut self, problem: &Problem, draws: &mut Xoshiro256PlusPlus, left: u64)
+        ensures stays { self.new.best ≡ self.old.best }
+    {
         let Some(step) = self.drawn(problem, draws) else {
             return;
         };
@@ -122,7 +130,9 @@ impl Walker {
         from.plus(self.loads.price(problem, step.to))
     }
 
-    fn make(&mut self, problem: &Problem, step: Step) {
+    fn make(&mut self, problem: &Problem, step: Step)
+        ensures stays { self.new.best ≡ self.old.best }
+    {
         self.loads.put(problem, step.need, step.to);
         if let Some(other) = step.back {
             self.loads.put(problem, other, step.from);
@@ -130,7 +140,10 @@ impl Walker {
     }
 
     // Keeps the choices where none is above its capacity and they cost less than those kept.
-    fn note(&mut self, problem: &Problem) {
+    fn note(&mut self, problem: &Problem)
+        ensures all { IfSome self.old.best (λ sites. length sites ≡ need_count problem.now) →
+            IfSome self.new.best (λ sites. length sites ≡ need_count problem.now) }
+    {
         if self.price.over == 0 && self.price.cost < self.best_cost {
             self.best_cost = self.price.cost;
             self.best = Some(self.loads.choices(problem));
