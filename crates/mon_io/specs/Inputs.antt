@@ -1,5 +1,5 @@
 -- What clauses see of inputs, and what a read takes off them.
-use Rattle.std.specs.Prelude.{◌≡◌, ◌⊎◌, ℕ, ◌+◌, ◌<◌, ◌≤◌, List, [], length, take, Option, IfSome, Result, Ok, Err, MatchResult}
+use Rattle.std.specs.Prelude.{◌≡◌, ◌⊎◌, ℕ, ◌+◌, ◌<◌, ◌≤◌, List, [], ◌++◌, length, take, Option, IfSome, Result, Ok, Err, MatchResult}
 use Rattle.std.specs.Io.KnownBytes.{prepend_known}
 use Rattle.mon_io.specs.declared.contents.ReadStop.{ReadStop}
 use Rattle.mon_io.specs.declared.contents.ReadStop.TheVariants.{Fault, TooLong, Memory}
@@ -9,6 +9,19 @@ pub record InputState : Type 0 where
   pub contents : List ℕ → Option (List ℕ)
   pub rest : Option (List ℕ)
   pub faults : ℕ
+
+-- Of each list of names that stood for what an object had picked before, that list with these names behind it stands
+-- for what it has picked after.
+abbrev pub Picked : (List (List ℕ) → Type 0) → (List (List ℕ) → Type 0) → List (List ℕ) → Type 0
+Picked before after names = (earlier : List (List ℕ)) → before earlier → after (earlier ++ names)
+
+-- each list of names that stood for it before stands for it after: nothing more was picked
+abbrev pub PickedNothing : (List (List ℕ) → Type 0) → (List (List ℕ) → Type 0) → Type 0
+PickedNothing before after = (earlier : List (List ℕ)) → before earlier → after earlier
+
+-- every list of names stands for what was picked, of an object that doesn't say
+abbrev pub PickedAny : {S : Type 0} → S → List (List ℕ) → Type 0
+PickedAny inputs names = Unit {0}
 
 -- front was taken off the old rest
 pub record Took (old new : Option (List ℕ)) (front : List ℕ) : Type 0 where

@@ -1,7 +1,7 @@
 //! The whole contents of an input.
-ghost use Rattle.std.specs.Prelude.{◌≡◌, ◌≤◌, ◌<◌, ◌+◌, IfOk, IfSome, OnErr, IsErrOf, MatchResult, is_some, length, take};
+ghost use Rattle.std.specs.Prelude.{◌≡◌, ◌≤◌, ◌<◌, ◌+◌, [], ◌∷◌, IfOk, IfSome, OnErr, IsErrOf, MatchResult, is_some, length, take};
 ghost use Rattle.mon_io.specs.Faults.{Rose, HasCause};
-ghost use Rattle.mon_io.specs.Inputs.{ReadsContents, Reads, Took, IsOver};
+ghost use Rattle.mon_io.specs.Inputs.{Picked, PickedNothing, ReadsContents, Reads, Took, IsOver};
 
 use crate::{Fault, Inputs};
 use std::alloc::{AllocError, Global};
@@ -31,15 +31,16 @@ pub fn read_all<I: Inputs>(
     ensures reads { ReadsContents (λ bytes. bytes.items) limit
         ((I.state inputs.old).contents name.now) (I.state inputs.old).rest (I.state inputs.new).rest result }
     ensures told { is_some (I.state inputs.new).rest ≡ is_some (I.state inputs.old).rest }
+    ensures picks { Picked (I.picks inputs.old) (I.picks inputs.new) (name.now ∷ []) }
     ensures stays { (I.state inputs.new).contents ≡ (I.state inputs.old).contents }
     ensures later { (I.state inputs.old).faults ≤ (I.state inputs.new).faults }
     ensures cause { IsErrOf result ReadStop.Fault → Rose (I.state inputs.old).faults (I.state inputs.new).faults }
 {
-    let Ok(mut chunk) = chunk_of(alloc) else {
-        return Err(ReadStop::Memory);
-    };
     let Ok(()) = inputs.pick(name) else {
         return Err(ReadStop::Fault);
+    };
+    let Ok(mut chunk) = chunk_of(alloc) else {
+        return Err(ReadStop::Memory);
     };
     read_rest(alloc, inputs, &mut chunk, limit)
 }
@@ -62,6 +63,7 @@ fn read_rest<I: Inputs>(
     ensures reads { ReadsContents (λ bytes. bytes.items) limit
         (I.state inputs.old).rest (I.state inputs.old).rest (I.state inputs.new).rest result }
     ensures told { is_some (I.state inputs.new).rest ≡ is_some (I.state inputs.old).rest }
+    ensures picks { PickedNothing (I.picks inputs.old) (I.picks inputs.new) }
     ensures stays { (I.state inputs.new).contents ≡ (I.state inputs.old).contents }
     ensures later { (I.state inputs.old).faults ≤ (I.state inputs.new).faults }
     ensures cause { IsErrOf result ReadStop.Fault → Rose (I.state inputs.old).faults (I.state inputs.new).faults }
@@ -91,6 +93,7 @@ fn read_piece<I: Inputs>(inputs: &mut I, chunk: &mut [u8], room: usize) -> Resul
         (λ n. Took (I.state inputs.old).rest (I.state inputs.new).rest (take n chunk.new) × (n ≡ 0 → IsOver (I.state inputs.new).rest))
         (λ _. (I.state inputs.new).rest ≡ (I.state inputs.old).rest) }
     ensures bound { IfOk result (λ n. (n ≤ length chunk.new) × (n ≤ room + 1)) }
+    ensures picks { PickedNothing (I.picks inputs.old) (I.picks inputs.new) }
     ensures stays { (I.state inputs.new).contents ≡ (I.state inputs.old).contents }
     ensures cause { HasCause (I.state inputs.old).faults (I.state inputs.new).faults result }
 {

@@ -2,7 +2,7 @@
 ghost use Rattle.std.specs.Prelude.{◌≡◌, ◌≤◌, None, length, IfOk};
 ghost use Rattle.std.specs.Io.{ReadsAtMost};
 ghost use Rattle.mon_io.specs.Faults.{HasCause, next_count};
-ghost use Rattle.mon_io.specs.Inputs.{InputState};
+ghost use Rattle.mon_io.specs.Inputs.{InputState, PickedAny};
 
 use crate::{Fault, Inputs};
 use std::io::Read;
@@ -122,6 +122,8 @@ fn copied(from: &[u8], into: &mut [u8]) -> usize
 
 impl<'a, R: Files + Input> Inputs for HostInputs<'a, R> {
     ghost state = { λ inputs. record { contents = λ _. None; rest = None; faults = inputs.faults } };
+
+    ghost picks = { PickedAny };
 
     /// A `Fault` where the name can't be opened.
     fn pick(&mut self, name: &str) -> Result<(), Fault> {

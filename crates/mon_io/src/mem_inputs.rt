@@ -1,9 +1,9 @@
 //! Inputs in memory, with calls that fail on demand.
-ghost use Rattle.std.specs.Prelude.{◌≡◌, ◌≤◌, ◌||◌, [], OnOk, OnErr, Some, IfOk, is_err, is_some, is_none, length, min};
+ghost use Rattle.std.specs.Prelude.{◌≡◌, ◌≤◌, ◌||◌, [], ◌∷◌, OnOk, OnErr, Some, IfOk, is_err, is_some, is_none, length, min};
 ghost use Rattle.std.specs.Io.{ReadsAtMost};
 ghost use Rattle.mon_io.specs.Faults.{HasCause, CountsFailure, is_due, next_count};
 ghost use Rattle.mon_io.specs.Files.{contents_of};
-ghost use Rattle.mon_io.specs.Inputs.{Reads};
+ghost use Rattle.mon_io.specs.Inputs.{Picked, PickedAny, PickedNothing, Reads};
 ghost use Rattle.mon_io.specs.MemInputs.{mem_inputs_state, mem_inputs_rest, failing_calls, calls_made};
 
 use crate::script::Script;
@@ -46,11 +46,14 @@ impl MemInputs {
 impl Inputs for MemInputs {
     ghost state = { mem_inputs_state };
 
+    ghost picks = { PickedAny };
+
     fn pick(&mut self, name: &str) -> Result<(), Fault>
         ensures picked { OnOk result ((mem_inputs_state self.new).rest ≡ (mem_inputs_state self.old).contents name.now) }
         ensures kept { OnErr result ((mem_inputs_state self.new).rest ≡ (mem_inputs_state self.old).rest) }
         ensures told { is_some (mem_inputs_state self.new).rest ≡ is_some (mem_inputs_state self.old).rest }
         ensures stays { (mem_inputs_state self.new).contents ≡ (mem_inputs_state self.old).contents }
+        ensures picks { Picked (PickedAny self.old) (PickedAny self.new) (name.now ∷ []) }
         ensures cause { HasCause (mem_inputs_state self.old).faults (mem_inputs_state self.new).faults result }
         ensures faults { CountsFailure (mem_inputs_state self.old).faults (mem_inputs_state self.new).faults result }
         // Exactly the calls of the list fail, and the picking of an unknown name.
@@ -74,6 +77,7 @@ impl Inputs for MemInputs {
         ensures bound { ReadsAtMost result buf.new }
         ensures bytes { Reads (mem_inputs_state self.old).rest (mem_inputs_state self.new).rest result buf.new }
         ensures stays { (mem_inputs_state self.new).contents ≡ (mem_inputs_state self.old).contents }
+        ensures picks { PickedNothing (PickedAny self.old) (PickedAny self.new) }
         ensures cause { HasCause (mem_inputs_state self.old).faults (mem_inputs_state self.new).faults result }
         ensures count { IfOk result (λ n. n ≡ min (length (mem_inputs_rest self.old)) (length buf.new)) }
         ensures faults { CountsFailure (mem_inputs_state self.old).faults (mem_inputs_state self.new).faults result }

@@ -1,9 +1,9 @@
 //! Inputs in memory that never fail.
-ghost use Rattle.std.specs.Prelude.{◌≡◌, [], IfOk, OnOk, OnErr, IsOk, Some, is_some, length, min};
+ghost use Rattle.std.specs.Prelude.{◌≡◌, [], ◌∷◌, IfOk, OnOk, OnErr, IsOk, Some, is_some, length, min};
 ghost use Rattle.std.specs.Io.{ReadsAtMost};
 ghost use Rattle.mon_io.specs.Faults.{HasCause};
 ghost use Rattle.mon_io.specs.Files.{contents_or_empty};
-ghost use Rattle.mon_io.specs.Inputs.{Reads};
+ghost use Rattle.mon_io.specs.Inputs.{Picked, PickedAny, PickedNothing, Reads};
 ghost use Rattle.mon_io.specs.NeverInputs.{never_inputs_state, never_inputs_rest};
 
 use crate::shelf::Shelf;
@@ -32,11 +32,14 @@ impl NeverInputs {
 impl Inputs for NeverInputs {
     ghost state = { never_inputs_state };
 
+    ghost picks = { PickedAny };
+
     fn pick(&mut self, name: &str) -> Result<(), Fault>
         ensures picked { OnOk result ((never_inputs_state self.new).rest ≡ (never_inputs_state self.old).contents name.now) }
         ensures kept { OnErr result ((never_inputs_state self.new).rest ≡ (never_inputs_state self.old).rest) }
         ensures told { is_some (never_inputs_state self.new).rest ≡ is_some (never_inputs_state self.old).rest }
         ensures stays { (never_inputs_state self.new).contents ≡ (never_inputs_state self.old).contents }
+        ensures picks { Picked (PickedAny self.old) (PickedAny self.new) (name.now ∷ []) }
         ensures cause { HasCause (never_inputs_state self.old).faults (never_inputs_state self.new).faults result }
         ensures never { IsOk result }
     {
@@ -51,6 +54,7 @@ impl Inputs for NeverInputs {
         ensures bound { ReadsAtMost result buf.new }
         ensures bytes { Reads (never_inputs_state self.old).rest (never_inputs_state self.new).rest result buf.new }
         ensures stays { (never_inputs_state self.new).contents ≡ (never_inputs_state self.old).contents }
+        ensures picks { PickedNothing (PickedAny self.old) (PickedAny self.new) }
         ensures cause { HasCause (never_inputs_state self.old).faults (never_inputs_state self.new).faults result }
         ensures count { IfOk result (λ n. n ≡ min (length (never_inputs_rest self.old)) (length buf.new)) }
         ensures never { IsOk result }
