@@ -43,7 +43,7 @@ abbrev pub Begun : Option (List ℕ) → Option (List ℕ) → Option (List ℕ)
 Begun contents before now (Ok reader) = SoFar contents now reader []
 Begun contents before now (Err Read) = IsLeft contents before now
 Begun contents before now (Err (Bad fault)) = IfSome contents (λ bytes. Broken bytes [] fault)
-Begun contents before now (Err Memory) = now ≡ before
+Begun contents before now (Err Memory) = IsLeft contents before now
 
 -- how a step behind these records ended: with the next record, at the end, or at a fault behind them
 abbrev pub Advanced : Option (List ℕ) → Option (List ℕ) → PcapReader → List Record → Result (Option Packet) PcapStop → Type 0

@@ -1,7 +1,7 @@
 //! Buffers filled from an input, in however many reads.
 ghost use Rattle.std.specs.Prelude.{◌≡◌, ◌≤◌, ◌<◌, MatchResult, length, take};
 ghost use Rattle.mon_io.specs.Faults.{HasCause};
-ghost use Rattle.mon_io.specs.Inputs.{IsRestOf};
+ghost use Rattle.mon_io.specs.Inputs.{IsRestOf, PickedNothing};
 ghost use Rattle.pcap_reader.specs.Filling.{Filled};
 
 use mon_io::{Fault, Inputs};
@@ -11,6 +11,7 @@ pub(crate) fn fill<I: Inputs>(inputs: &mut I, into: &mut [u8]) -> Result<usize, 
     ensures bytes { MatchResult result
         (λ n. Filled (I.state inputs.old).rest (I.state inputs.new).rest into.new n)
         (λ _. IsRestOf (I.state inputs.old).rest (I.state inputs.new).rest) }
+    ensures picks { PickedNothing (I.picks inputs.old) (I.picks inputs.new) }
     ensures stays { (I.state inputs.new).contents ≡ (I.state inputs.old).contents }
     ensures cause { HasCause (I.state inputs.old).faults (I.state inputs.new).faults result }
 {

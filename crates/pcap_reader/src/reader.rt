@@ -1,7 +1,7 @@
 //! The reader of a trace.
-ghost use Rattle.std.specs.Prelude.{◌≡◌, ◌≢◌, ◌⊎◌, ◌≤◌, ◌<◌, ◌+◌, ◌*◌, ◌++◌, [], List, ℕ, Option, Some, Err, length, take, IfOk, IfErr, IfSome, IsErrOf, MatchResult};
+ghost use Rattle.std.specs.Prelude.{◌≡◌, ◌≢◌, ◌⊎◌, ◌≤◌, ◌<◌, ◌+◌, ◌*◌, ◌++◌, [], ◌∷◌, List, ℕ, Option, Some, Err, length, take, IfOk, IfErr, IfSome, IsErrOf, MatchResult};
 ghost use Rattle.mon_io.specs.Faults.{Rose, HasCause};
-ghost use Rattle.mon_io.specs.Inputs.{IsRestOf};
+ghost use Rattle.mon_io.specs.Inputs.{IsRestOf, Picked, PickedNothing};
 ghost use Rattle.pcap_reader.specs.Filling.{Filled};
 ghost use Rattle.pcap_reader.specs.Numbers.{number_32};
 ghost use Rattle.pcap_reader.specs.Trace.{fault_at};
@@ -36,23 +36,24 @@ impl PcapReader {
     ghost use Rattle.pcap_reader.specs.Trace.{Record, packet_of};
     ghost use Rattle.pcap_reader.specs.Reader.{Begun, Advanced, SoFar, GoesPast, captured_of, header_read, stop_of};
 
-    /// Picks the named input and reads its header. It takes the buffer first, and is the one call that
-    /// can answer `PcapStop::Memory`.
+    /// Picks the named input and reads its header. It takes the buffer once the name is picked, and is
+    /// the one call that can answer `PcapStop::Memory`.
     pub fn begin<I: Inputs>(
         alloc: Global,
         inputs: &mut I,
         name: &str,
     ) -> Result<PcapReader, PcapStop>
         ensures begun { Begun ((I.state inputs.old).contents name.now) (I.state inputs.old).rest (I.state inputs.new).rest result }
+        ensures picks { Picked (I.picks inputs.old) (I.picks inputs.new) (name.now ∷ []) }
         ensures stays { (I.state inputs.new).contents ≡ (I.state inputs.old).contents }
         ensures later { (I.state inputs.old).faults ≤ (I.state inputs.new).faults }
         ensures cause { IsErrOf result PcapStop.Read → Rose (I.state inputs.old).faults (I.state inputs.new).faults }
     {
-        let Ok(buffer) = new_buffer(alloc) else {
-            return Err(PcapStop::Memory);
-        };
         let Ok(()) = inputs.pick(name) else {
             return Err(PcapStop::Read);
+        };
+        let Ok(buffer) = new_buffer(alloc) else {
+            return Err(PcapStop::Memory);
         };
         let mut bytes = [0; HEADER_LENGTH];
         let Ok(count) = fill(inputs, &mut bytes) else {
@@ -80,6 +81,7 @@ impl PcapReader {
         ensures stopped { IfSome (stop_of self.old) (λ stop. (result ≡ Err stop) × ((I.state inputs.new).rest ≡ (I.state inputs.old).rest)) }
         ensures stops { IfErr result (λ stop. stop_of self.new ≡ Some stop) }
         ensures header { header_read self.new ≡ header_read self.old }
+        ensures picks { PickedNothing (I.picks inputs.old) (I.picks inputs.new) }
         ensures stays { (I.state inputs.new).contents ≡ (I.state inputs.old).contents }
         ensures later { (I.state inputs.old).faults ≤ (I.state inputs.new).faults }
         ensures cause { IsErrOf result PcapStop.Read →
@@ -109,6 +111,7 @@ impl PcapReader {
             Advanced contents (I.state inputs.new).rest self.new members result }
         ensures header { header_read self.new ≡ header_read self.old }
         ensures stop { stop_of self.new ≡ stop_of self.old }
+        ensures picks { PickedNothing (I.picks inputs.old) (I.picks inputs.new) }
         ensures stays { (I.state inputs.new).contents ≡ (I.state inputs.old).contents }
         ensures later { (I.state inputs.old).faults ≤ (I.state inputs.new).faults }
         ensures cause { IsErrOf result PcapStop.Read → Rose (I.state inputs.old).faults (I.state inputs.new).faults }
@@ -192,6 +195,7 @@ fn fill_front<I: Inputs>(inputs: &mut I, buffer: &mut [u8], wanted: usize) -> Re
         (λ n. (n ≤ wanted) × Filled (I.state inputs.old).rest (I.state inputs.new).rest (take wanted buffer.new) n)
         (λ _. IsRestOf (I.state inputs.old).rest (I.state inputs.new).rest) }
     ensures size { length (take wanted buffer.new) ≡ wanted }
+    ensures picks { PickedNothing (I.picks inputs.old) (I.picks inputs.new) }
     ensures stays { (I.state inputs.new).contents ≡ (I.state inputs.old).contents }
     ensures cause { HasCause (I.state inputs.old).faults (I.state inputs.new).faults result }
 {

@@ -1,6 +1,7 @@
 //! Worked traces, and inputs that fail or give little at a time.
 ghost use Rattle.std.specs.Prelude.{None};
 ghost use Rattle.mon_io.specs.MemInputs.{mem_inputs_state};
+ghost use Rattle.mon_io.specs.Inputs.{PickedAny};
 
 use crate::{Packet, PcapFault, PcapReader, PcapStop};
 use flow_keys::Link;
@@ -41,6 +42,8 @@ struct Trickle {
 
 impl Inputs for Trickle {
     ghost state = { λ trickle. record { contents = λ _. None; rest = None; faults = (mem_inputs_state trickle.inputs).faults } };
+
+    ghost picks = { PickedAny };
 
     fn pick(&mut self, name: &str) -> Result<(), Fault> {
         self.inputs.pick(name)
