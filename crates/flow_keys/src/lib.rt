@@ -9,6 +9,7 @@
 //! - `text`: `key_text`, from a key to its text
 //! - `prefix`: `Prefix`, an IP prefix, read from a text, and the keys that it holds
 //! - `prefix_fault`: why a text is no prefix
+//! - `routed`: `Routed`, what a packet becomes once it has a key and a route
 //! - `side`: source or destination
 //! - `address`: the texts of IPv4 and IPv6 addresses
 //! - `numerals`: numbers as digits, with separators between them
@@ -27,6 +28,7 @@ mod numerals;
 mod packet;
 mod prefix;
 mod prefix_fault;
+mod routed;
 mod side;
 #[cfg(test)]
 mod tests;
@@ -37,5 +39,6 @@ pub use key::FlowKey;
 pub use link::Link;
 pub use prefix::Prefix;
 pub use prefix_fault::PrefixFault;
+pub use routed::Routed;
 pub use side::Side;
 pub use text::{KeyText, key_text, one_text_one_key};
