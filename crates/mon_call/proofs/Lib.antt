@@ -1,0 +1,4 @@
+pub mod Behind
+pub mod Endings
+mod Lengths
+pub mod Telling

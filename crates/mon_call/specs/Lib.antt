@@ -1,0 +1,5 @@
+pub mod Call
+pub mod Setting
+pub mod Told
+pub mod Topology
+pub mod Trace

@@ -1,0 +1,38 @@
+//! How a call ended.
+
+use bound_certificate::CertFault;
+use mon_words::UsageFault;
+use routed_trace::TraceFault;
+use topology::TopologyFault;
+
+/// How a call ended.
+#[derive(Clone, Copy, Debug, PartialEq, Eq)]
+pub enum Status {
+    /// The work was done and the whole text written.
+    Done,
+    /// The words of the call are refused.
+    Usage(UsageFault),
+    /// An input could not be picked or read.
+    ReadFault(Input),
+    /// The topology is refused, by its first fault.
+    Topology(TopologyFault),
+    /// The trace is refused, by its first fault in the order of the file.
+    Trace(TraceFault),
+    /// The certificate is refused, by its first fault.
+    Certificate(CertFault),
+    /// The text could not be written to its end.
+    SinkFault,
+    /// A growth was refused.
+    Memory,
+}
+
+/// What is read.
+#[derive(Clone, Copy, Debug, PartialEq, Eq)]
+pub enum Input {
+    /// The topology.
+    Topology,
+    /// The trace.
+    Trace,
+    /// The tree.
+    Tree,
+}

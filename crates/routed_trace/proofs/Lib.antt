@@ -1,0 +1,4 @@
+mod Adding
+pub mod Fronts
+pub mod Readings
+pub mod Records
