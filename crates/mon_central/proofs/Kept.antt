@@ -7,9 +7,9 @@ use Rattle.std.specs.Ordering.{nat_cmp}
 use Rattle.count_sketch.specs.Counters.{Item}
 use Rattle.sketch_levels.specs.Items.{distinct, distinct_keys, live_items, with_key}
 use Rattle.flow_keys.proofs.KeyOrder.{by_order}
-use Rattle.mon_command.specs.Asked.{is_setting}
-use Rattle.mon_command.specs.declared.setting.Setting.{Setting}
-use Rattle.mon_command.proofs.Packets.{length-live_items-le}
+use Rattle.mon_call.specs.Setting.{is_setting}
+use Rattle.mon_call.specs.declared.setting.Setting.{Setting}
+use Rattle.mon_central.proofs.Packets.{length-live_items-le}
 
 -- a key put in makes one more at most
 length-with_key-le : (keys : List (List ℕ)) (key : List ℕ) → length (with_key keys key) ≤ length keys + 1

@@ -1,5 +1,5 @@
 -- What has been sketched, packet by packet.
-use Rattle.std.proofs.Common.{◌≡◌, ℕ, ◌+◌, ◌<◌, ◌≤◌, ◌==◌, Bool, true, false, cond, not, ◌||◌, ◌&&◌, is_some, Vec, replicate, List, [], ◌∷◌, ◌++◌, length, slice_index, slice_index_or, map, Option, Some, None, IsTrue, refl, sym, ◌∙◌, ap, subst, arith, length-append}
+use Rattle.std.proofs.Common.{◌≡◌, ℕ, ◌+◌, ◌<◌, ◌≤◌, ◌==◌, ◌^◌, Bool, true, false, cond, not, ◌||◌, ◌&&◌, is_some, Vec, replicate, List, [], ◌∷◌, ◌++◌, length, slice_index, slice_index_or, map, Option, Some, None, IsTrue, refl, sym, ◌∙◌, ap, subst, arith, length-append}
 use Rattle.std.specs.List.{list_any, range_with_len}
 use Rattle.std.proofs.lemmas.List.{get_or_default, with_items_is, get_or-replicate, length-replicate}
 use Rattle.std.specs.Vec.{with_items}
@@ -7,7 +7,7 @@ use Rattle.std.specs.declared.alloc.Global.{Global}
 use Rattle.std.proofs.lemmas.Bool.Decides.{nat_tests}
 use Rattle.std.proofs.lemmas.List.Folds.{list_any-append}
 use Rattle.std.proofs.lemmas.List.FromFn.{map-range_with_len_more}
-use Rattle.std.proofs.lemmas.List.Sums.{sum_by-append, length-filter, count_by-le-length}
+use Rattle.std.proofs.lemmas.List.Sums.{sum_by_push, length-filter, count_by-le-length}
 use Rattle.hash_family.specs.Hash.{is_live}
 use Rattle.count_sketch.specs.Counters.{Item, counters_of}
 use Rattle.sketch_levels.specs.Items.{live_items, weight_of, distinct_keys}
@@ -16,13 +16,15 @@ use Rattle.sketch_levels.specs.Noted.{Noted, HoldsNotes, notes_of}
 use Rattle.hash_family.specs.Setting as sketch
 use Rattle.sketch_levels.specs.Kept as levels
 use Rattle.sketch_levels.proofs.Live.{live_items-live, live_items-dead, live_items-none}
-use Rattle.mon_command.specs.Central.{levels_setting, kept_keys, nonzero, level_count, drops}
-use Rattle.mon_command.specs.Routed.{item_of}
-use Rattle.mon_command.specs.Live.{CountsLive, AreLive}
-use Rattle.mon_command.specs.Asked.{is_setting}
-use Rattle.mon_command.specs.Sketched.{Sketches, HasRoom, IsNoted, any_mark}
-use Rattle.mon_command.specs.declared.setting.Setting.{Setting}
-use Rattle.mon_command.specs.declared.sketching.Sketched.{Sketched}
+use Rattle.mon_central.specs.Central.{levels_setting, kept_keys, nonzero, level_count, drops}
+use Rattle.flow_keys.specs.declared.routed.Routed.{Routed}
+use Rattle.routed_trace.specs.Routed.{item_of}
+use Rattle.routed_trace.proofs.Weights.{sum_by-filter-le}
+use Rattle.mon_central.specs.Live.{CountsLive, AreLive, AreWeighed}
+use Rattle.mon_call.specs.Setting.{is_setting}
+use Rattle.mon_central.specs.Sketched.{Sketches, HasRoom, IsNoted, any_mark}
+use Rattle.mon_call.specs.declared.setting.Setting.{Setting}
+use Rattle.mon_central.specs.declared.sketching.Sketched.{Sketched}
 use Rattle.change_report.specs.declared.level_count.LevelCount.{LevelCount}
 
 -- the items of a level are not more than all
@@ -38,7 +40,7 @@ length-live_items-push seed level items item true live = ap (λ (xs : List Item)
 length-live_items-push seed level items item false dead = ap (λ (xs : List Item). length xs) (live_items-dead seed level items item dead) ∙ omega arith
 
 -- the counts of the levels, one packet on
-pub live_more : (seed : ℕ) (items : List Item) (item : Item) (old new : List ℕ) → AreLive seed items old → CountsLive seed item.key old new → AreLive seed (items ++ item ∷ []) new
+pub live_more : (seed : ℕ) (items : List Item) (item : Item) (old new : List ℕ) → AreLive seed items old → CountsLive seed item.key 1 old new → AreLive seed (items ++ item ∷ []) new
 live_more seed items item old new are counts = record {
   each = λ level within.
       let inside : level < length old = omega (arith, within, counts.size) in
@@ -47,33 +49,50 @@ live_more seed items item old new are counts = record {
       ∙ sym (length-live_items-push seed level items item (is_live seed level item.key) refl);
 }
 
--- items of weight 1 weigh as much as there are
-pub weight_of-push : (items : List Item) (item : Item) → item.weight ≡ 1 → weight_of items ≡ length items → weight_of (items ++ item ∷ []) ≡ length (items ++ item ∷ [])
-weight_of-push items item one ones =
-    omega (arith, sum_by-append (λ (x : Item). x.weight) items (item ∷ []), one, ones, length-append items (item ∷ []))
+-- the weight of one item more at a level, by whether it is live there
+weight_of-push : (seed level : ℕ) (items : List Item) (item : Item) (b : Bool) → is_live seed level item.key ≡ b
+    → weight_of (live_items seed level (items ++ item ∷ [])) ≡ weight_of (live_items seed level items) + cond {A = ℕ} b item.weight 0
+weight_of-push seed level items item true live =
+    ap weight_of (live_items-live seed level items item live)
+    ∙ sum_by_push (λ (x : Item). x.weight) (live_items seed level items) item
+weight_of-push seed level items item false dead =
+    ap weight_of (live_items-dead seed level items item dead) ∙ omega arith
 
-ones_push : (seed level : ℕ) (items : List Item) (item : Item) (b : Bool) → is_live seed level item.key ≡ b → item.weight ≡ 1 → weight_of (live_items seed level items) ≡ length (live_items seed level items)
-    → weight_of (live_items seed level (items ++ item ∷ [])) ≡ length (live_items seed level (items ++ item ∷ []))
-ones_push seed level items item true live one ones = rw (live_items-live seed level items item live) (weight_of-push (live_items seed level items) item one ones)
-ones_push seed level items item false dead one ones = rw (live_items-dead seed level items item dead) ones
+-- the weights of the levels, one packet on
+pub weights_more : (seed : ℕ) (items : List Item) (item : Item) (old new : List ℕ) → AreWeighed seed items old → CountsLive seed item.key item.weight old new
+    → AreWeighed seed (items ++ item ∷ []) new
+weights_more seed items item old new are counts = record {
+  each = λ level within.
+      let inside : level < length old = omega (arith, within, counts.size) in
+      counts.each level inside
+      ∙ ap (λ (n : ℕ). n + cond {A = ℕ} (is_live seed level item.key) item.weight 0) (are.each level inside)
+      ∙ sym (weight_of-push seed level items item (is_live seed level item.key) refl);
+}
 
-pub ones_more : (seed : ℕ) (items : List Item) (item : Item) → item.weight ≡ 1 → ((level : ℕ) → weight_of (live_items seed level items) ≡ length (live_items seed level items))
-    → (level : ℕ) → weight_of (live_items seed level (items ++ item ∷ [])) ≡ length (live_items seed level (items ++ item ∷ []))
-ones_more seed items item one ones level = ones_push seed level items item (is_live seed level item.key) refl one (ones level)
+-- what is live weighs no more than all
+pub live_light : (seed level : ℕ) (items : List Item) → weight_of (live_items seed level items) ≤ weight_of items
+unfolding live_items
+live_light seed level items = sum_by-filter-le (λ (x : Item). x.weight) (λ item. is_live seed level item.key) items
 
 levels_le : (setting : Setting) → IsTrue (is_setting setting) → setting.levels ≤ 16
 levels_le setting range = grind (arith, nat_tests)
 
 -- room for one packet more
-pub has_room : (setting : Setting) (sketched : Sketched) (items : List Item) → Sketches setting sketched items → IsTrue (is_setting setting) → length items < 1048576 → HasRoom sketched
-has_room setting sketched items sketches range few = record {
+pub has_room : (setting : Setting) (sketched : Sketched) (items : List Item) (weight : ℕ) → Sketches setting sketched items → IsTrue (is_setting setting)
+    → length items < 1048576 → weight_of items + weight ≤ 2 ^ 44 → HasRoom sketched weight
+has_room setting sketched items weight sketches range few light = record {
   number = omega (arith, sketches.number_is, few);
-  weight = omega (arith, sketches.holds.weight, sketches.weight_is, few);
+  light = omega (arith, sketches.holds.weight, light);
   levels = omega (arith, sketches.number, levels_le setting range);
+  same = sketches.size ∙ sym sketches.number;
   live = λ level d inside.
       let count : slice_index sketched.live.items level ≡ length (live_items setting.seed level items) = sketches.live.each level inside in
       let same : slice_index_or sketched.live.items level d ≡ slice_index sketched.live.items level = get_or_default sketched.live.items level d 0 inside in
       omega (arith, count, same, length-live_items-le setting.seed level items, few);
+  weights = λ level d inside.
+      let sum : slice_index sketched.weights.items level ≡ weight_of (live_items setting.seed level items) = sketches.weights.each level inside in
+      let same : slice_index_or sketched.weights.items level d ≡ slice_index sketched.weights.items level = get_or_default sketched.weights.items level d 0 inside in
+      omega (arith, sum, same, live_light setting.seed level items, light);
 }
 
 pub or_false : (b : Bool) → (b || false) ≡ b
@@ -93,21 +112,21 @@ any_mark-more setting items number =
     ∙ ap (λ (b : Bool). any_mark setting items number || b) (or_false (mark number))
 
 -- one more packet
-pub sketches_more : {setting : Setting} {old : Sketched} {items : List Item} (new : Sketched) (key : List ℕ) → Sketches setting old items
-    → new.family ≡ old.family → new.levels.setting ≡ old.levels.setting → (Holds old.levels items → Holds new.levels (items ++ item_of key ∷ []))
-    → IsNoted setting (items ++ item_of key ∷ []) new.all → CountsLive old.family key old.live.items new.live.items
-    → new.number ≡ old.number + 1
-    → Sketches setting new (items ++ item_of key ∷ [])
-sketches_more {setting} {old} {items} new key sketches family shape holds noted counts more = record {
+pub sketches_more : {setting : Setting} {old : Sketched} {items : List Item} (new : Sketched) (packet : Routed) → Sketches setting old items
+    → new.family ≡ old.family → new.levels.setting ≡ old.levels.setting → (Holds old.levels items → Holds new.levels (items ++ item_of packet ∷ []))
+    → IsNoted setting (items ++ item_of packet ∷ []) new.all → CountsLive old.family packet.key 1 old.live.items new.live.items
+    → CountsLive old.family packet.key packet.weight old.weights.items new.weights.items → new.number ≡ old.number + 1
+    → Sketches setting new (items ++ item_of packet ∷ [])
+sketches_more {setting} {old} {items} new packet sketches family shape holds noted counts weighs more = record {
   family = family ∙ sketches.family;
   shape = shape ∙ sketches.shape;
   holds = holds sketches.holds;
   noted = noted;
   number = counts.size ∙ sketches.number;
-  live = live_more setting.seed items (item_of key) old.live.items new.live.items sketches.live (subst (λ (seed : ℕ). CountsLive seed key old.live.items new.live.items) sketches.family counts);
-  number_is = omega (arith, more, sketches.number_is, length-append items (item_of key ∷ []));
-  weight_is = weight_of-push items (item_of key) refl sketches.weight_is;
-  ones = ones_more setting.seed items (item_of key) refl sketches.ones;
+  live = live_more setting.seed items (item_of packet) old.live.items new.live.items sketches.live (subst (λ (seed : ℕ). CountsLive seed packet.key 1 old.live.items new.live.items) sketches.family counts);
+  size = weighs.size ∙ sketches.size;
+  weights = weights_more setting.seed items (item_of packet) old.weights.items new.weights.items sketches.weights (subst (λ (seed : ℕ). CountsLive seed packet.key packet.weight old.weights.items new.weights.items) sketches.family weighs);
+  number_is = omega (arith, more, sketches.number_is, length-append items (item_of packet ∷ []));
 }
 
 -- where no keys are noted, none are noted after more items
@@ -116,10 +135,10 @@ noted_none setting items more None is noted = noted
 noted_none setting items more (Some all) is noted = absurd (cc)
 
 -- the counts of the levels, in their vector
-pub counts_in : {seed : ℕ} {key before after : List ℕ} (v : Vec ℕ Global) → before ≡ v.items → length after ≡ v.len → CountsLive seed key before after → CountsLive seed key v.items (with_items v after).items
-counts_in {seed} {key} {before} {after} v is size counts =
-    subst (λ (l : List ℕ). CountsLive seed key v.items l) (sym (with_items_is v after size))
-    (subst (λ (l : List ℕ). CountsLive seed key l after) is counts)
+pub counts_in : {seed more : ℕ} {key before after : List ℕ} (v : Vec ℕ Global) → before ≡ v.items → length after ≡ v.len → CountsLive seed key more before after → CountsLive seed key more v.items (with_items v after).items
+counts_in {seed} {more} {key} {before} {after} v is size counts =
+    subst (λ (l : List ℕ). CountsLive seed key more v.items l) (sym (with_items_is v after size))
+    (subst (λ (l : List ℕ). CountsLive seed key more l after) is counts)
 
 -- the keys kept, by whether all live keys are noted
 pub kept_all : (setting : Setting) (level : ℕ) (live : List Item) → (setting.heap == 0) ≡ true → distinct_keys live ≡ kept_keys setting level live
@@ -166,8 +185,12 @@ live_first seed n live is = record {
       ap (λ (l : List ℕ). slice_index l level) is ∙ get_or-replicate n level 0 0 inside ∙ sym (ap (λ (items : List Item). length items) (live_items-none seed level));
 }
 
-pub weight_of_none : (seed level : ℕ) → weight_of (live_items seed level []) ≡ length (live_items seed level [])
-weight_of_none seed level = rw (live_items-none seed level) refl
+pub weighed_first : (seed n : ℕ) (weights : List ℕ) → weights ≡ replicate n 0 → AreWeighed seed [] weights
+weighed_first seed n weights is = record {
+  each = λ level within.
+      let inside : level < n = omega (arith, within, ap (λ (l : List ℕ). length l) is, length-replicate {A = ℕ} n 0) in
+      ap (λ (l : List ℕ). slice_index l level) is ∙ get_or-replicate n level 0 0 inside ∙ sym (ap weight_of (live_items-none seed level));
+}
 
 -- an element that was read
 pub read_at : (xs : List ℕ) (i level x : ℕ) → x ≡ slice_index_or xs i x → i ≡ level → level < length xs → x ≡ slice_index xs level

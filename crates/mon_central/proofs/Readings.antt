@@ -2,16 +2,15 @@
 use Rattle.std.proofs.Common.{◌≡◌, ℕ, ◌<◌, List, ◌∷◌, [], length, Option, Some, Ok, ◌∙◌, ap, arith, length-append}
 use Rattle.flow_keys.specs.Frame.{frame_key}
 use Rattle.flow_keys.specs.declared.link.Link.{Link}
-use Rattle.pcap_reader.specs.Trace.{Record}
+use Rattle.pcap_reader.specs.Trace.{Record, packet_of}
 use Rattle.pcap_reader.specs.Reader.{SoFar, Advanced, captured_of}
 use Rattle.pcap_reader.specs.declared.header.Header.{Header}
 use Rattle.pcap_reader.specs.declared.packet.Packet.{Packet}
 use Rattle.pcap_reader.specs.declared.reader.PcapReader.{PcapReader}
 use Rattle.topology.specs.Topology.{Topo}
-use Rattle.mon_command.specs.Routed.{seconds_of}
-use Rattle.mon_command.specs.Sketched.{Divides, IsPart}
-use Rattle.mon_command.specs.declared.epochs.Epochs.{Epochs}
-use Rattle.mon_command.specs.declared.setting.Setting.{Setting}
+use Rattle.mon_central.specs.Sketched.{Divides, IsPart}
+use Rattle.mon_central.specs.declared.epochs.Epochs.{Epochs}
+use Rattle.mon_call.specs.declared.setting.Setting.{Setting}
 
 -- what was sketched are the records that a reader has read
 pub record Dividing (contents rest : Option (List ℕ)) (reader : PcapReader) (setting : Setting) (topology : Option Topo) (epochs : Epochs) : Type 0 where
@@ -32,11 +31,10 @@ part_of {reader = reader} dividing = record {
   divides = dividing.divides;
 }
 
--- the seconds of the record that a step gave, and its key
-pub seconds_read : {contents now : Option (List ℕ)} {next : PcapReader} {packet : Packet} (header : Header) (members : List Record) → next.header ≡ header → (advanced : Advanced contents now next members (Ok (Some packet)))
-    → packet.seconds ≡ seconds_of header advanced.0
-seconds_read header members same advanced =
-    ap (λ (p : Packet). p.seconds) advanced.2 ∙ ap (λ (h : Header). seconds_of h advanced.0) same
+-- the packet of the record that a step gave, and its key
+pub packet_read : {contents now : Option (List ℕ)} {next : PcapReader} {packet : Packet} (header : Header) (members : List Record) → next.header ≡ header → (advanced : Advanced contents now next members (Ok (Some packet)))
+    → packet ≡ packet_of header advanced.0
+packet_read header members same advanced = advanced.2 ∙ ap (λ (h : Header). packet_of h advanced.0) same
 
 pub key_read : {contents now : Option (List ℕ)} {next : PcapReader} {packet : Packet} {key : Option (List ℕ)} (header : Header) (members : List Record) → next.header ≡ header → (advanced : Advanced contents now next members (Ok (Some packet)))
     → key ≡ frame_key packet.link (captured_of next) → key ≡ frame_key header.link advanced.0.captured

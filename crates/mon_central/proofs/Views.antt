@@ -17,11 +17,11 @@ use Rattle.sketch_merge.specs.Merged.{View, HaveUpTo, counters_at, keys_at}
 use Rattle.change_report.specs.Block.{block_text}
 use Rattle.change_report.specs.Change.{change_lines}
 use Rattle.change_report.specs.declared.level_count.LevelCount.{LevelCount}
-use Rattle.mon_command.specs.Central.{levels_setting, block_of, central_view, change_of, drops, kept_keys, level_counts}
-use Rattle.mon_command.specs.Sketched.{Sketches, counters_up_to, keys_up_to}
-use Rattle.mon_command.specs.declared.setting.Setting.{Setting}
-use Rattle.mon_command.specs.declared.sketching.Sketched.{Sketched}
-use Rattle.mon_command.proofs.Ranges.{flat_map-same}
+use Rattle.mon_central.specs.Central.{levels_setting, block_of, central_view, change_of, drops, kept_keys, level_counts}
+use Rattle.mon_central.specs.Sketched.{Sketches, counters_up_to, keys_up_to}
+use Rattle.mon_call.specs.declared.setting.Setting.{Setting}
+use Rattle.mon_central.specs.declared.sketching.Sketched.{Sketched}
+use Rattle.mon_central.proofs.Ranges.{flat_map-same}
 
 -- a level has at most so many keys
 pub few_at : (n : ℕ) (view : View) (level : ℕ) → HaveUpTo n view.keys → length (keys_at view level) ≤ n

@@ -11,11 +11,11 @@ use Rattle.change_report.specs.Block.{block_text}
 use Rattle.change_report.specs.Change.{change_lines}
 use Rattle.change_report.specs.declared.level_count.LevelCount.{LevelCount}
 use Rattle.pcap_reader.specs.declared.header.Header.{Header}
-use Rattle.pcap_reader.specs.Trace.{Record, IsTrace}
-use Rattle.topology.specs.Topology.{Topo, topology_of}
-use Rattle.mon_command.specs.Routed.{Routed, items_in, number_of_epochs, routed_of}
-use Rattle.mon_command.specs.Total.{keyed_in}
-use Rattle.mon_command.specs.declared.setting.Setting.{Setting}
+use Rattle.pcap_reader.specs.Trace.{Record}
+use Rattle.topology.specs.Topology.{Topo}
+use Rattle.flow_keys.specs.declared.routed.Routed.{Routed}
+use Rattle.routed_trace.specs.Routed.{items_in, keyed_in, number_of_epochs, routed_of}
+use Rattle.mon_call.specs.declared.setting.Setting.{Setting}
 
 -- the setting of the levels: where every live key is kept beside them, their heaps have one place
 abbrev pub levels_setting : Setting → sketch.Setting
@@ -67,11 +67,24 @@ unfoldable pub counts_line : ℕ → ℕ → ℕ → List ℕ
 counts_line packets keyed routed =
     codes "packets " ++ (decimal packets ++ (codes " keyed " ++ (decimal keyed ++ (codes " routed " ++ (decimal routed ++ codes "\n")))))
 
+-- what a packet counts
+unfoldable pub weight_word : Bool → List ℕ
+weight_word bytes = if bytes then codes "bytes" else codes "packets"
+
+-- the numbers of the counters
+unfoldable pub counter_words : Setting → List ℕ
+counter_words setting =
+    codes "sketch seed " ++ (decimal setting.seed ++ (codes " levels " ++ (decimal setting.levels
+    ++ (codes " rows " ++ (decimal setting.rows ++ (codes " width " ++ decimal setting.width))))))
+
+-- how many keys a level keeps, and what a packet counts
+unfoldable pub kept_words : Setting → List ℕ
+kept_words setting =
+    codes " heap " ++ (heap_text setting.heap ++ (codes " weight " ++ (weight_word setting.division.bytes ++ codes "\n")))
+
 -- the line of the sketch's numbers
 unfoldable pub sketch_line : Setting → List ℕ
-sketch_line setting =
-    codes "sketch seed " ++ (decimal setting.seed ++ (codes " levels " ++ (decimal setting.levels ++ (codes " rows " ++ (decimal setting.rows
-    ++ (codes " width " ++ (decimal setting.width ++ (codes " heap " ++ (heap_text setting.heap ++ codes " weight packets\n")))))))))
+sketch_line setting = counter_words setting ++ kept_words setting
 
 -- the counters and keys of each level, of the items that are live there, and the mark of the heaps
 unfoldable pub central_view : Setting → List Item → View
@@ -111,26 +124,6 @@ lines_of setting packets keyed routed epochs =
 -- the text of a trace
 unfoldable pub central_text : Setting → Option Topo → Header → List Record → List ℕ
 central_text setting topology header members =
-    let routed = routed_of setting.epoch topology header members in
+    let routed = routed_of setting.division topology header members in
     lines_of setting (length members) (keyed_in header members) (length routed)
-    (epochs_lines setting routed (number_of_epochs setting.epoch header members))
-
--- a topology is read where one is named, from told contents that spell it
-abbrev pub IsTopology : (List ℕ → Option (List ℕ)) → Option (List ℕ) → Option Topo → Type 0
-IsTopology contents None topology = topology ≡ None
-IsTopology contents (Some name) topology =
-    (read : Topo) × (topology ≡ Some read) × IfSome (contents name) (λ bytes. topology_of bytes ≡ Ok read)
-
--- the text for contents that are a trace of some records in at most eight epochs
-pub record IsReport (contents : Option (List ℕ)) (topology : Option Topo) (setting : Setting) (text : List ℕ) : Type 0 where
-  pub header : Header
-  pub members : List Record
-  pub is_trace : IfSome contents (λ bytes. IsTrace bytes header members)
-  pub few : number_of_epochs setting.epoch header members ≤ 8
-  pub lines : text ≡ central_text setting topology header members
-
--- the text for a topology, where one is named, and a trace
-pub record IsCentral (contents : List ℕ → Option (List ℕ)) (trace : List ℕ) (name : Option (List ℕ)) (setting : Setting) (text : List ℕ) : Type 0 where
-  pub topology : Option Topo
-  pub read : IsTopology contents name topology
-  pub report : IsReport (contents trace) topology setting text
+    (epochs_lines setting routed (number_of_epochs setting.division.seconds header members))

@@ -11,19 +11,20 @@ use Rattle.sketch_levels.specs.Noted.{Noted, HoldsNotes, notes_of}
 use Rattle.sketch_merge.specs.Merged as merged
 use Rattle.sketch_merge.specs.Merged.{HaveUpTo}
 use Rattle.pcap_reader.specs.declared.header.Header.{Header}
-use Rattle.pcap_reader.specs.Trace.{Record, IsTrace}
+use Rattle.pcap_reader.specs.Trace.{Record, IsTrace, packet_of}
+use Rattle.pcap_reader.specs.declared.packet.Packet.{Packet}
+use Rattle.flow_keys.specs.declared.routed.Routed.{Routed}
+use Rattle.routed_trace.specs.Counts.{Added, AreCounts}
+use Rattle.routed_trace.specs.Routed.{items_in, number_of_epochs, routed_of, weight_of_routed}
 use Rattle.topology.specs.Topology.{Topo}
-use Rattle.mon_command.specs.Asked.{is_setting}
-use Rattle.mon_command.specs.Central.{central_view, levels_setting, kept_keys}
-use Rattle.mon_command.specs.Live.{AreLive}
-use Rattle.mon_command.specs.Routed.{Routed, epoch_of, first_of, items_in, number_of_epochs, routed_of, seconds_of}
-use Rattle.mon_command.specs.Total.{keyed_in}
-use Rattle.mon_command.specs.declared.epochs.Epochs.{Epochs}
-use Rattle.mon_command.specs.declared.setting.Setting.{Setting}
-use Rattle.mon_command.specs.declared.sketching.Sketched.{Sketched}
-use Rattle.mon_command.specs.declared.status.TraceFault.TheVariants as fault
-use Rattle.mon_command.specs.declared.stop.TraceStop.{TraceStop}
-use Rattle.mon_command.specs.declared.stop.TraceStop.TheVariants as stop
+use Rattle.mon_call.specs.declared.status.Status.{Status}
+use Rattle.mon_call.specs.declared.status.Status.TheVariants.{Done, Usage, ReadFault, Topology, Trace, Certificate, SinkFault, Memory}
+use Rattle.mon_call.specs.Setting.{is_setting}
+use Rattle.mon_central.specs.Central.{central_view, levels_setting, kept_keys}
+use Rattle.mon_central.specs.Live.{AreLive, AreWeighed}
+use Rattle.mon_central.specs.declared.epochs.Epochs.{Epochs}
+use Rattle.mon_call.specs.declared.setting.Setting.{Setting}
+use Rattle.mon_central.specs.declared.sketching.Sketched.{Sketched}
 
 -- all live keys are noted exactly where the heap is 0
 abbrev pub IsNoted : Setting → List Item → Option Noted → Type 0
@@ -39,16 +40,18 @@ pub record Sketches (setting : Setting) (sketched : Sketched) (items : List Item
   pub noted : IsNoted setting items sketched.all
   pub number : length sketched.live.items ≡ setting.levels + 1
   pub live : AreLive setting.seed items sketched.live.items
+  pub size : length sketched.weights.items ≡ setting.levels + 1
+  pub weights : AreWeighed setting.seed items sketched.weights.items
   pub number_is : sketched.number ≡ length items
-  pub weight_is : weight_of items ≡ length items
-  pub ones : (level : ℕ) → weight_of (live_items setting.seed level items) ≡ length (live_items setting.seed level items)
 
--- one more packet can be counted
-pub record HasRoom (sketched : Sketched) : Type 0 where
+-- one more packet of this weight can be counted
+pub record HasRoom (sketched : Sketched) (weight : ℕ) : Type 0 where
   pub number : sketched.number < 1048576
-  pub weight : sketched.levels.weight < 1048576
+  pub light : sketched.levels.weight + weight ≤ 2 ^ 44
   pub levels : length sketched.live.items ≤ 17
+  pub same : length sketched.weights.items ≡ length sketched.live.items
   pub live : All (λ count. count < 1048576) sketched.live.items
+  pub weights : All (λ sum. sum ≤ 2 ^ 44) sketched.weights.items
 
 -- one of so many levels has a mark
 abbrev pub any_mark : sketch.Setting → List Item → ℕ → Bool
@@ -74,12 +77,13 @@ pub record Splits (setting : Setting) (sketches : List Sketched) (routed : List 
   pub each : (epoch : ℕ) (d : Sketched) → epoch < length sketches → Sketches setting (slice_index_or sketches epoch d) (items_in epoch routed)
   pub none : (epoch : ℕ) → length sketches ≤ epoch → items_in epoch routed ≡ []
 
--- the sketches are those of fewer than 1,048,576 packets
-pub record HasSpace (sketches : List Sketched) : Type 0 where
+-- the sketches are those of fewer than 1,048,576 packets, which weigh at most 2^44 together with one of this weight
+pub record HasSpace (sketches : List Sketched) (weight : ℕ) : Type 0 where
   pub setting : Setting
   pub range : IsTrue (is_setting setting)
   pub routed : List Routed
   pub few : length routed < 1048576
+  pub light : weight_of_routed routed + weight ≤ 2 ^ 44
   pub splits : Splits setting sketches routed
 
 -- the sketches are those of at most 1,048,576 packets in at most eight epochs
@@ -101,15 +105,11 @@ abbrev pub IsEarlier : Setting → ℕ → List Item → Option merged.View → 
 IsEarlier setting epoch earlier None = epoch ≡ 0
 IsEarlier setting epoch earlier (Some view) = (0 < epoch) × (view ≡ central_view setting earlier)
 
--- what was sketched are these records, in at most eight epochs
+-- what was sketched are these records
 pub record Divides (setting : Setting) (topology : Option Topo) (epochs : Epochs) (header : Header) (members : List Record) : Type 0 where
-  pub first_is : epochs.first ≡ first_of header members
-  pub packets_is : epochs.packets ≡ length members
-  pub keyed_is : epochs.keyed ≡ keyed_in header members
-  pub routed_is : epochs.routed ≡ length (routed_of setting.epoch topology header members)
-  pub number_is : length epochs.sketches.items ≡ number_of_epochs setting.epoch header members
-  pub few : number_of_epochs setting.epoch header members ≤ 8
-  pub splits : Splits setting epochs.sketches.items (routed_of setting.epoch topology header members)
+  pub counts_are : AreCounts setting.division topology epochs.counts header members
+  pub number_is : length epochs.sketches.items ≡ number_of_epochs setting.division.seconds header members
+  pub splits : Splits setting epochs.sketches.items (routed_of setting.division topology header members)
 
 -- what was sketched are some records, of which there are at most 1,048,576
 pub record IsPart (setting : Setting) (topology : Option Topo) (epochs : Epochs) : Type 0 where
@@ -118,24 +118,38 @@ pub record IsPart (setting : Setting) (topology : Option Topo) (epochs : Epochs)
   pub few : length members ≤ 1048576
   pub divides : Divides setting topology epochs header members
 
--- how counting one more record ended: with it behind the others, or at its epoch
-abbrev pub Counted : Setting → Option Topo → Epochs → Header → List Record → Record → Result (Unit {0}) TraceStop → Type 0
-Counted setting topology epochs header members member (Ok done) = Divides setting topology epochs header (members ++ member ∷ [])
-Counted setting topology epochs header members member (Err stop.Read) = ⊥
-Counted setting topology epochs header members member (Err (stop.Bad (fault.Pcap other))) = ⊥
-Counted setting topology epochs header members member (Err (stop.Bad (fault.Epochs number index))) =
-    (number ≡ length members) × (index ≡ epoch_of setting.epoch header (members ++ member ∷ []) member) × (7 < index)
-Counted setting topology epochs header members member (Err stop.Memory) = ⊤
+-- what was sketched are fewer records than 1,048,576, and this packet with this key is of one more
+pub record IsNext (setting : Setting) (topology : Option Topo) (epochs : Epochs) (packet : Packet) (key : Option (List ℕ)) : Type 0 where
+  pub header : Header
+  pub members : List Record
+  pub member : Record
+  pub few : length members < 1048576
+  pub divides : Divides setting topology epochs header members
+  pub packet_is : packet ≡ packet_of header member
+  pub key_is : key ≡ frame_key header.link member.captured
 
--- the same of any records so far, and one with these seconds and this key
-abbrev pub Counts : Setting → Option Topo → Epochs → Epochs → ℕ → Option (List ℕ) → Result (Unit {0}) TraceStop → Type 0
-Counts setting topology old new seconds key result =
+-- how counting one more record ended: with it behind the others, or where it is late or heavy
+abbrev pub Counted : Setting → Option Topo → Epochs → Header → List Record → Record → Result (Unit {0}) Status → Type 0
+Counted setting topology epochs header members member (Ok done) = Divides setting topology epochs header (members ++ member ∷ [])
+Counted setting topology epochs header members member (Err Done) = ⊥
+Counted setting topology epochs header members member (Err (Usage fault)) = ⊥
+Counted setting topology epochs header members member (Err (ReadFault input)) = ⊥
+Counted setting topology epochs header members member (Err (Topology fault)) = ⊥
+Counted setting topology epochs header members member (Err (Trace fault)) =
+    Added setting.division topology epochs.counts header members member (Err fault)
+Counted setting topology epochs header members member (Err (Certificate fault)) = ⊥
+Counted setting topology epochs header members member (Err SinkFault) = ⊥
+Counted setting topology epochs header members member (Err Memory) = ⊤
+
+-- the same of any records so far, and one that is this packet, with this key
+abbrev pub Counts : Setting → Option Topo → Epochs → Epochs → Packet → Option (List ℕ) → Result (Unit {0}) Status → Type 0
+Counts setting topology old new packet key result =
     (header : Header) (members : List Record) (member : Record) → Divides setting topology old header members
-    → seconds ≡ seconds_of header member → key ≡ frame_key header.link member.captured
+    → packet ≡ packet_of header member → key ≡ frame_key header.link member.captured
     → Counted setting topology new header members member result
 
 -- what was sketched are the records of a trace
-pub record IsDivided (contents : Option (List ℕ)) (topology : Option Topo) (setting : Setting) (epochs : Epochs) : Type 0 where
+pub record IsSketched (contents : Option (List ℕ)) (topology : Option Topo) (setting : Setting) (epochs : Epochs) : Type 0 where
   pub header : Header
   pub members : List Record
   pub is_trace : IfSome contents (λ bytes. IsTrace bytes header members)

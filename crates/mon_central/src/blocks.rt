@@ -1,12 +1,12 @@
 //! The lines of the epochs of a trace.
 ghost use Rattle.std.specs.Prelude.{◌≡◌, ◌<◌, ◌==◌, ◌-◌, ◌++◌, [], List, IfOk, IfSome, length, string_bytes, if◌then◌else◌};
 ghost use Rattle.count_sketch.specs.Counters.{Item};
-ghost use Rattle.mon_command.specs.Central.{block_of, central_view, change_of, epochs_lines};
-ghost use Rattle.mon_command.specs.Routed.{Routed};
-ghost use Rattle.mon_command.specs.Sketched.{AreSplit, IsEarlier, IsMerged, IsSketch, Sketches, Splits};
+ghost use Rattle.mon_central.specs.Central.{block_of, central_view, change_of, epochs_lines};
+ghost use Rattle.flow_keys.specs.declared.routed.Routed.{Routed};
+ghost use Rattle.mon_central.specs.Sketched.{AreSplit, IsEarlier, IsMerged, IsSketch, Sketches, Splits};
 
-use crate::setting::Setting;
 use crate::sketching::Sketched;
+use mon_call::Setting;
 use mon_io::Memory;
 use sketch_merge::Merged;
 use std::alloc::Global;

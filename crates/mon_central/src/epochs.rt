@@ -1,35 +1,27 @@
 //! A trace as it is sketched, epoch by epoch.
-ghost use Rattle.std.specs.Prelude.{◌≡◌, ◌<◌, ◌≤◌, [], List, Option, IfOk, IsErrOf, IsTrue, string_bytes};
-ghost use Rattle.mon_io.specs.Faults.{Rose};
-ghost use Rattle.mon_command.specs.Asked.{is_setting};
-ghost use Rattle.mon_command.specs.Scan.{Divided, trace_stop};
-ghost use Rattle.mon_command.specs.Sketched.{IsDivided};
-ghost use Rattle.mon_command.specs.declared.stop.TraceStop.TheVariants.{Read};
+ghost use Rattle.std.specs.Prelude.{◌≡◌, ◌<◌, ◌≤◌, [], ◌∷◌, Option, IfOk, IsTrue, string_bytes};
+ghost use Rattle.mon_io.specs.Inputs.{Picked};
+ghost use Rattle.mon_call.specs.Setting.{is_setting};
+ghost use Rattle.mon_call.specs.Trace.{ReadsTrace};
+ghost use Rattle.mon_central.specs.Duty.{IsRefused};
+ghost use Rattle.mon_central.specs.Sketched.{IsSketched};
 
-use crate::TraceFault;
 use crate::blocks::epochs_text;
-use crate::dividing::{add_to, epoch_at, has_path, reach};
-use crate::setting::Setting;
+use crate::dividing::{add_to, reach};
 use crate::sketching::Sketched;
-use crate::stop::TraceStop;
 use crate::text::text_of;
 use flow_keys::{FlowKey, key_of};
+use mon_call::{Setting, Status, trace_status};
 use mon_io::{Inputs, Memory};
-use pcap_reader::{PcapReader, PcapStop};
+use pcap_reader::{Packet, PcapReader};
+use routed_trace::TraceCounts;
 use std::alloc::Global;
 use topology::Topology;
 
-// The greatest index of an epoch.
-const LAST: u32 = 7;
-
-/// One sketch for each epoch so far, the seconds of the first packet, and how many packets there are, how many of
-/// them have a key, and how many of these a path.
+/// One sketch for each epoch so far, and the numbers of the records.
 #[derive(Drop)]
 pub(crate) struct Epochs {
-    first: Option<u32>,
-    packets: u32,
-    keyed: u32,
-    routed: u32,
+    counts: TraceCounts,
     sketches: Vec<Sketched>,
 }
 
@@ -40,41 +32,43 @@ pub(crate) fn sketch<I: Inputs>(
     topology: &Option<Topology>,
     setting: &Setting,
     inputs: &mut I,
-) -> Result<Epochs, TraceStop>
-    requires { IsTrue (is_setting setting.now) }
-    ensures sketched { let contents = (I.state inputs.old).contents trace.now in
-        Divided (IsDivided contents topology.now setting.now) setting.now.epoch contents (I.state inputs.old).rest (I.state inputs.new).rest result }
+) -> Result<Epochs, Status>
+    requires range { IsTrue (is_setting setting.now) }
+    ensures sketched { let contents = (I.state inputs.old).contents in
+        ReadsTrace (IsSketched (contents trace.now) topology.now setting.now) (IsRefused contents trace.now setting.now)
+        (contents trace.now) (I.state inputs.old) (I.state inputs.new) result }
+    ensures picks { Picked (I.picks inputs.old) (I.picks inputs.new) (trace.now ∷ []) }
     ensures stays { (I.state inputs.new).contents ≡ (I.state inputs.old).contents }
     ensures later { (I.state inputs.old).faults ≤ (I.state inputs.new).faults }
-    ensures cause { IsErrOf result Read → Rose (I.state inputs.old).faults (I.state inputs.new).faults }
 {
-    let Ok(mut epochs) = Epochs::new(alloc, setting) else {
-        return Err(TraceStop::Memory);
-    };
     let mut reader = match PcapReader::begin(alloc, inputs, trace) {
         Ok(reader) => reader,
-        Err(stop) => return Err(trace_stop(stop)),
+        Err(stop) => return Err(trace_status(stop)),
+    };
+    let Ok(mut epochs) = Epochs::new(alloc, setting) else {
+        return Err(Status::Memory);
     };
     loop {
         let packet = match reader.next(inputs) {
             Ok(Some(packet)) => packet,
             Ok(None) => return Ok(epochs),
-            Err(stop) => return Err(trace_stop(stop)),
+            Err(stop) => return Err(trace_status(stop)),
         };
         let key = key_of(packet.link, reader.captured());
-        match epochs.add(alloc, setting, topology, packet.seconds, key) {
+        match epochs.add(alloc, setting, topology, &packet, key) {
             Ok(()) => {}
-            Err(stop) => return Err(stop),
+            Err(status) => return Err(status),
         }
     }
 }
 
 impl Epochs {
-    ghost use Rattle.mon_command.specs.Sketched.{Counts, Divides, IsPart};
-    ghost use Rattle.mon_command.specs.Central.{central_text};
+    ghost use Rattle.mon_central.specs.Sketched.{Counts, Divides, IsNext, IsPart};
+    ghost use Rattle.mon_central.specs.Central.{central_text};
     ghost use Rattle.pcap_reader.specs.declared.header.Header.{Header};
     ghost use Rattle.pcap_reader.specs.Trace.{Record};
     ghost use Rattle.topology.specs.Topology.{Topo};
+    ghost use Rattle.std.specs.Prelude.{List};
 
     /// One epoch, and nothing in it yet.
     pub(crate) fn new(alloc: Global, setting: &Setting) -> Result<Epochs, Memory>
@@ -84,52 +78,38 @@ impl Epochs {
         let mut sketches = Vec::new(alloc);
         reach(alloc, setting, &mut sketches, 1)?;
         Ok(Epochs {
-            first: None,
-            packets: 0,
-            keyed: 0,
-            routed: 0,
+            counts: TraceCounts::none(),
             sketches,
         })
     }
 
-    /// Counts a packet of so many seconds, with its key where it has one.
+    /// Counts a packet, with its key where it has one. It is `Trace` where the record is late or heavy, or `Memory`.
     pub(crate) fn add(
         &mut self,
         alloc: Global,
         setting: &Setting,
         topology: &Option<Topology>,
-        seconds: u32,
+        packet: &Packet,
         key: Option<FlowKey>,
-    ) -> Result<(), TraceStop>
+    ) -> Result<(), Status>
         requires range { IsTrue (is_setting setting.now) }
-        requires part { IsPart setting.now topology.now self.old }
-        requires room { self.old.packets < 1048576 }
-        ensures { Counts setting.now topology.now self.old self.new seconds key result }
+        requires next { IsNext setting.now topology.now self.old packet.now key }
+        ensures { Counts setting.now topology.now self.old self.new packet.now key result }
     {
-        let first = self.first.unwrap_or(seconds);
-        let epoch = epoch_at(setting.epoch, first, seconds);
-        if epoch > LAST {
-            return Err(TraceStop::Bad(TraceFault::Epochs {
-                number: self.packets,
-                index: epoch,
-            }));
-        }
-        self.first = Some(first);
-        self.packets += 1;
-        let Ok(()) = reach(alloc, setting, &mut self.sketches, epoch as usize + 1) else {
-            return Err(TraceStop::Memory);
+        let found = match self.counts.add(&setting.division, topology, packet, key) {
+            Ok(found) => found,
+            Err(fault) => return Err(Status::Trace(fault)),
         };
-        let Some(key) = key else {
+        let number = self.counts.epochs as usize;
+        let Ok(()) = reach(alloc, setting, &mut self.sketches, number) else {
+            return Err(Status::Memory);
+        };
+        let Some(routed) = found else {
             return Ok(());
         };
-        self.keyed += 1;
-        if !has_path(topology, &key) {
-            return Ok(());
-        }
-        self.routed += 1;
-        match add_to(&mut self.sketches, epoch as usize, &key) {
+        match add_to(&mut self.sketches, &routed) {
             Ok(()) => Ok(()),
-            Err(Memory) => Err(TraceStop::Memory),
+            Err(Memory) => Err(Status::Memory),
         }
     }
 
@@ -141,27 +121,9 @@ impl Epochs {
             Divides setting.now topology self.now header members → string_bytes text ≡ central_text setting.now topology header members) }
     {
         let epochs = epochs_text(alloc, setting, &self.sketches)?;
-        match text_of(
-            alloc,
-            setting,
-            self.packets,
-            self.keyed,
-            self.routed,
-            &epochs,
-        ) {
+        match text_of(alloc, setting, &self.counts, &epochs) {
             Ok(text) => Ok(text),
             Err(_) => Err(Memory),
         }
-    }
-}
-
-// A stop of the reader.
-fn trace_stop(stop: PcapStop) -> TraceStop
-    ensures { result ≡ trace_stop stop }
-{
-    match stop {
-        PcapStop::Read => TraceStop::Read,
-        PcapStop::Bad(fault) => TraceStop::Bad(TraceFault::Pcap(fault)),
-        PcapStop::Memory => TraceStop::Memory,
     }
 }

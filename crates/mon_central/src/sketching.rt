@@ -5,35 +5,36 @@ ghost use Rattle.std.specs.Ordering.{nat_cmp};
 ghost use Rattle.std.specs.List.Sorted.{IsStrictlySortedBy};
 ghost use Rattle.count_sketch.specs.Counters.{Item, AllUpTo};
 ghost use Rattle.sketch_merge.specs.Merged.{HaveUpTo};
-ghost use Rattle.mon_command.specs.Asked.{is_setting};
-ghost use Rattle.mon_command.specs.Central.{levels_setting, nonzero};
-ghost use Rattle.mon_command.specs.Routed.{item_of};
+ghost use Rattle.mon_call.specs.Setting.{is_setting};
+ghost use Rattle.mon_central.specs.Central.{levels_setting, nonzero};
+ghost use Rattle.routed_trace.specs.Routed.{item_of};
 ghost use Rattle.hash_family.specs.Setting.{setting_of};
 
 use crate::live::count_live;
-use crate::setting::Setting;
 use change_report::{LevelCount, change_text, epoch_text};
-use flow_keys::FlowKey;
+use flow_keys::{FlowKey, Routed};
 use hash_family::{Family, Params};
+use mon_call::Setting;
 use mon_io::Memory;
 use sketch_levels::{AllKeys, Levels};
 use sketch_merge::Merged;
 use std::alloc::Global;
 
-/// The levels of a sketch, all live keys where they are kept, how many packets are live at each level,
-/// and how many packets there are.
+/// The levels of a sketch, all live keys where they are kept, how many packets are live at each level and what they
+/// weigh, and how many packets there are.
 #[derive(Drop)]
 pub(crate) struct Sketched {
     family: Family,
     levels: Levels,
     all: Option<AllKeys>,
     live: Vec<u32>,
+    weights: Vec<u64>,
     number: u32,
 }
 
 impl Sketched {
-    ghost use Rattle.mon_command.specs.Sketched.{Sketches, IsMerged, IsSketch, HasRoom, any_mark, counters_up_to, keys_up_to};
-    ghost use Rattle.mon_command.specs.Central.{block_of, central_view, change_of, kept_keys, level_count, level_counts};
+    ghost use Rattle.mon_central.specs.Sketched.{Sketches, IsMerged, IsSketch, HasRoom, any_mark, counters_up_to, keys_up_to};
+    ghost use Rattle.mon_central.specs.Central.{block_of, central_view, change_of, kept_keys, level_count, level_counts};
     ghost use Rattle.sketch_levels.specs.Items.{live_items};
     ghost use Rattle.sketch_levels.specs.Levels.{Holds};
 
@@ -49,25 +50,34 @@ impl Sketched {
         } else {
             None
         };
-        let live = zeros(alloc, usize::from(setting.levels) + 1)?;
+        let live = no_counts(alloc, usize::from(setting.levels) + 1)?;
+        let weights = no_weights(alloc, usize::from(setting.levels) + 1)?;
         Ok(Sketched {
             family,
             levels,
             all,
             live,
+            weights,
             number: 0,
         })
     }
 
-    /// Counts a packet with this key.
-    pub(crate) fn add(&mut self, key: &FlowKey) -> Result<(), Memory>
-        requires { HasRoom self.old }
+    /// Counts a packet.
+    pub(crate) fn add(&mut self, packet: &Routed) -> Result<(), Memory>
+        requires { HasRoom self.old packet.now.weight }
         ensures { OnOk result ((setting : Setting) (items : List Item) →
-            Sketches setting self.old items → Sketches setting self.new (items ++ item_of key.now ∷ [])) }
+            Sketches setting self.old items → Sketches setting self.new (items ++ item_of packet.now ∷ [])) }
     {
+        let key = &packet.key;
         self.number += 1;
-        self.levels.feed(key, 1);
-        count_live(&self.family, key, &mut self.live);
+        self.levels.feed(key, packet.weight);
+        count_live(
+            &self.family,
+            key,
+            packet.weight,
+            &mut self.live,
+            &mut self.weights,
+        );
         match &mut self.all {
             Some(all) => all.note(&self.family, key),
             None => Ok(()),
@@ -216,6 +226,7 @@ impl Sketched {
     // The numbers of one level.
     fn level_count(&self, level: u8, merged: &Merged) -> LevelCount
         requires number { level < length self.now.live.items }
+        requires same { level < length self.now.weights.items }
         requires high { level ≤ merged.now.setting.levels }
         requires few { HaveUpTo 1048576 merged.now.keys }
         ensures value { (setting : Setting) (items : List Item) →
@@ -223,9 +234,10 @@ impl Sketched {
             level ≤ setting.levels → result ≡ level_count setting items level }
     {
         let packets = self.live[usize::from(level)];
+        let weight = self.weights[usize::from(level)];
         LevelCount {
             packets,
-            weight: u64::from(packets),
+            weight,
             keys: merged.keys(level).len() as u32,
             nonzero: nonzero(merged.counters(level)),
         }
@@ -269,11 +281,20 @@ fn params_of(setting: &Setting) -> Params
     .unwrap()
 }
 
-fn zeros(alloc: Global, number: usize) -> Result<Vec<u32>, Memory>
+fn no_counts(alloc: Global, number: usize) -> Result<Vec<u32>, Memory>
     ensures { IfOk result (λ counts. counts.items ≡ replicate number 0) }
 {
     match vec![in alloc; 0u32; number] {
         Ok(counts) => Ok(counts),
+        Err(_) => Err(Memory),
+    }
+}
+
+fn no_weights(alloc: Global, number: usize) -> Result<Vec<u64>, Memory>
+    ensures { IfOk result (λ weights. weights.items ≡ replicate number 0) }
+{
+    match vec![in alloc; 0u64; number] {
+        Ok(weights) => Ok(weights),
         Err(_) => Err(Memory),
     }
 }

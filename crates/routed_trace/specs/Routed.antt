@@ -77,6 +77,10 @@ routed_at division topology header members member =
 unfoldable pub routed_of : Division → Option Topo → Header → List Record → List Routed
 routed_of division topology header members = filter_map (routed_at division topology header members) members
 
+-- what routed packets weigh together
+abbrev pub weight_of_routed : List Routed → ℕ
+weight_of_routed routed = sum_by (λ packet. packet.weight) routed
+
 -- a routed packet as it is sketched
 abbrev pub item_of : Routed → Item
 item_of packet = record { key = packet.key; weight = packet.weight }

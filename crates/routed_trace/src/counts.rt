@@ -1,5 +1,5 @@
 //! The numbers of the records of a trace so far.
-ghost use Rattle.std.specs.Prelude.{◌≡◌, ◌≤◌, [], Option, IfSome};
+ghost use Rattle.std.specs.Prelude.{◌≡◌, ◌<◌, ◌≤◌, [], Option, IfOk, IfSome};
 ghost use Rattle.pcap_reader.specs.declared.header.Header.{Header};
 ghost use Rattle.pcap_reader.specs.Trace.{Record};
 ghost use Rattle.topology.specs.Topology.{Topo};
@@ -58,6 +58,7 @@ impl TraceCounts {
         requires length { IfSome division.now.seconds (λ length. 1 ≤ length) }
         requires part { HasCounted division.now topology.now self.old }
         ensures adds { Adds division.now topology.now self.old self.new packet.now key result }
+        ensures within { IfOk result (λ found. IfSome found (λ packet. packet.epoch < self.new.epochs)) }
     {
         let first = self.first.unwrap_or(packet.seconds);
         let epoch = division.epoch(first, packet.seconds);

@@ -1,9 +1,9 @@
 use Rattle.std.proofs.Common.{◌≡◌, ◌+◌, ◌-◌, ℕ, ◌∙◌, ap, arith}
-use Rattle.mon_command.specs.Central.{central_view}
-use Rattle.mon_command.specs.Routed.{items_in}
-use Rattle.mon_command.specs.Sketched.{IsSketch}
-use Rattle.mon_command.proofs.Splitting.{epochs_lines-push, length-items_in-le, sketch_at}
-use Rattle.mon_command.proofs.blocks.epochs_text.Goals as goal
+use Rattle.mon_central.specs.Central.{central_view}
+use Rattle.routed_trace.specs.Routed.{items_in}
+use Rattle.mon_central.specs.Sketched.{IsSketch}
+use Rattle.mon_central.proofs.Splitting.{epochs_lines-push, length-items_in-le, sketch_at}
+use Rattle.mon_central.proofs.blocks.epochs_text.Goals as goal
 
 some_sketch : (c : goal.After-index-sketches-epoch) → IsSketch c.args.setting.now c.index-sketches-epoch.result
 some_sketch c =

@@ -1,8 +1,9 @@
 use Rattle.std.proofs.Common.{◌≡◌, ◌<◌, ◌-◌, List, IfSome, string_bytes}
-use Rattle.mon_command.specs.Central.{epochs_lines}
-use Rattle.mon_command.specs.Routed.{Routed, items_in}
-use Rattle.mon_command.specs.Sketched.{IsEarlier, IsMerged, Splits}
-use Rattle.mon_command.proofs.blocks.epochs_text.Given as goal
+use Rattle.mon_central.specs.Central.{epochs_lines}
+use Rattle.flow_keys.specs.declared.routed.Routed.{Routed}
+use Rattle.routed_trace.specs.Routed.{items_in}
+use Rattle.mon_central.specs.Sketched.{IsEarlier, IsMerged, Splits}
+use Rattle.mon_central.proofs.blocks.epochs_text.Given as goal
 
 abbrev pub invariant-loop-epoch : goal.invariant-loop-epoch
 invariant-loop-epoch l =

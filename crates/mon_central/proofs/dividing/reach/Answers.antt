@@ -1,8 +1,8 @@
 use Rattle.std.proofs.Common.{◌≡◌, ◌+◌, ◌++◌, [], ◌∷◌, List, length, sym, ◌∙◌, ap, subst, arith, length-append}
-use Rattle.mon_command.specs.Sketched.{Splits}
-use Rattle.mon_command.specs.declared.sketching.Sketched.{Sketched}
-use Rattle.mon_command.proofs.Splitting.{splits_reach}
-use Rattle.mon_command.proofs.dividing.reach.Goals as goal
+use Rattle.mon_central.specs.Sketched.{Splits}
+use Rattle.mon_central.specs.declared.sketching.Sketched.{Sketched}
+use Rattle.mon_central.proofs.Splitting.{splits_reach}
+use Rattle.mon_central.proofs.dividing.reach.Goals as goal
 
 pub loop-alloc-preserved : goal.loop-alloc-preserved
 loop-alloc-preserved c =

@@ -1,7 +1,7 @@
 use Rattle.std.proofs.Common.{◌≤◌, ◌-◌, max, List, length}
-use Rattle.mon_command.specs.Routed.{Routed}
-use Rattle.mon_command.specs.Sketched.{Splits}
-use Rattle.mon_command.proofs.dividing.reach.Given as goal
+use Rattle.flow_keys.specs.declared.routed.Routed.{Routed}
+use Rattle.mon_central.specs.Sketched.{Splits}
+use Rattle.mon_central.proofs.dividing.reach.Given as goal
 
 abbrev pub invariant-loop-alloc : goal.invariant-loop-alloc
 invariant-loop-alloc l =

@@ -1,21 +1,12 @@
 use Rattle.std.proofs.Common.{◌++◌, ℕ, List, Err, arith, sym, ◌∙◌, ap, subst, length-append, [], ◌∷◌}
 use Rattle.flow_keys.specs.Frame.{frame_key}
+use Rattle.pcap_reader.specs.declared.fault.PcapStop.{PcapStop}
 use Rattle.pcap_reader.specs.declared.header.Header.{Header}
-use Rattle.mon_command.specs.Scan.{Divided}
-use Rattle.mon_command.specs.Sketched.{Divides, IsDivided}
-use Rattle.mon_command.specs.declared.stop.TraceStop.{TraceStop}
-use Rattle.mon_command.proofs.Readings.{few_before, key_read, seconds_read}
-use Rattle.mon_command.proofs.Scans.{divided_begun, divided_counted, divided_stop, never_read, whole_trace}
-use Rattle.mon_command.proofs.epochs.sketch.Goals as goal
-
-pub returns-in-Err-clause-sketched : goal.returns-in-Err-clause-sketched
-returns-in-Err-clause-sketched g c =
-    let contents = (g.I.Inputs.state c.args.inputs.now).contents c.args.trace.now in
-    let before = (g.I.Inputs.state c.args.inputs.now).rest in
-    let now = (g.I.Inputs.state c.begin.new.inputs).rest in
-    let P = IsDivided contents c.args.topology.now c.args.setting.now in
-    subst (λ (s : TraceStop). Divided P c.args.setting.now.epoch contents before now (Err s)) (sym c.trace_stop.ensures)
-    (divided_begun P c.args.setting.now.epoch contents before now c.in-Err.stop c.in-Err.ensures.begun)
+use Rattle.mon_central.specs.Sketched.{Divides}
+use Rattle.mon_central.proofs.Readings.{few_before, key_read, packet_read}
+use Rattle.mon_central.proofs.Stops.{Reads, advanced_stop, begun_stop, counted_stop}
+use Rattle.routed_trace.proofs.Readings.{whole_trace}
+use Rattle.mon_central.proofs.epochs.sketch.Goals as goal
 
 pub returns-in-Ok-None-clause-sketched : goal.returns-in-Ok-None-clause-sketched
 returns-in-Ok-None-clause-sketched g c =
@@ -28,39 +19,36 @@ returns-in-Ok-None-clause-sketched g c =
       divides = subst (λ (h : Header). Divides c.args.setting.now c.args.topology.now c.loop-packet.epochs h dividing.members) (sym c.next.ensures.header) dividing.divides;
     }
 
-pub returns-in-Err-next-clause-sketched : goal.returns-in-Err-next-clause-sketched
-returns-in-Err-next-clause-sketched g c =
-    let contents = (g.I.Inputs.state c.args.inputs.now).contents c.args.trace.now in
-    let before = (g.I.Inputs.state c.args.inputs.now).rest in
-    let now = (g.I.Inputs.state c.next.new.inputs).rest in
-    let P = IsDivided contents c.args.topology.now c.args.setting.now in
+pub add-requires-clause-next : goal.add-requires-clause-next
+add-requires-clause-next g c =
     let dividing = c.loop-packet.invariant.0 in
-    subst (λ (s : TraceStop). Divided P c.args.setting.now.epoch contents before now (Err s)) (sym c.trace_stop-in-Err-next.ensures)
-    (divided_stop P c.args.setting.now.epoch contents before _ now c.loop-packet.reader c.next.new.self dividing.members c.in-Err-next.stop dividing.so_far dividing.divides.few
-    (c.in-Err-next.ensures.advances _ dividing.members dividing.so_far))
-
-pub add-requires-clause-room : goal.add-requires-clause-room
-add-requires-clause-room g c =
-    let dividing = c.loop-packet.invariant.0 in
-    let advanced = rw c.in-Ok-Some.field-0-is at (c.in-Ok-Some.ensures.advances _ dividing.members dividing.so_far) in
-    omega (arith, few_before dividing.members advanced, dividing.divides.packets_is)
+    let header = c.loop-packet.reader.header in
+    let advanced = rw c.in-Ok-Some.field-0-is at (c.in-Ok-Some.ensures.advances _ dividing.members dividing.so_far) in record {
+      header = header;
+      members = dividing.members;
+      member = advanced.0;
+      few = few_before dividing.members advanced;
+      divides = dividing.divides;
+      packet_is = packet_read header dividing.members c.next.ensures.header advanced;
+      key_is = key_read header dividing.members c.next.ensures.header advanced (c.key_of-key.ensures.key ∙ ap (λ (bytes : List ℕ). frame_key c.in-Ok-Some.packet.link bytes) c.captured.ensures);
+    }
 
 pub loop-packet-smaller : goal.loop-packet-smaller
 loop-packet-smaller g c =
     let dividing = c.loop-packet.invariant.0 in
     let header = c.loop-packet.reader.header in
     let advanced = rw c.in-Ok-Some.field-0-is at (c.in-Ok-Some.ensures.advances _ dividing.members dividing.so_far) in
-    let at = seconds_read header dividing.members c.next.ensures.header advanced in
+    let at = packet_read header dividing.members c.next.ensures.header advanced in
     let is = key_read header dividing.members c.next.ensures.header advanced (c.key_of-key.ensures.key ∙ ap (λ (bytes : List ℕ). frame_key c.in-Ok-Some.packet.link bytes) c.captured.ensures) in
     let counted = c.in-Ok-add.ensures header dividing.members advanced.0 dividing.divides at is in
-    omega (arith, counted.packets_is, dividing.divides.packets_is, length-append dividing.members (advanced.0 ∷ []), few_before dividing.members advanced)
+    omega (arith, counted.counts_are.packets, dividing.divides.counts_are.packets, length-append dividing.members (advanced.0 ∷ []), few_before dividing.members advanced)
 
 pub loop-packet-preserved : goal.loop-packet-preserved
 loop-packet-preserved g c =
     let dividing = c.loop-packet.invariant.0 in
     let header = c.loop-packet.reader.header in
     let advanced = rw c.in-Ok-Some.field-0-is at (c.in-Ok-Some.ensures.advances _ dividing.members dividing.so_far) in
-    let at = seconds_read header dividing.members c.next.ensures.header advanced in
+    let at = packet_read header dividing.members c.next.ensures.header advanced in
     let is = key_read header dividing.members c.next.ensures.header advanced (c.key_of-key.ensures.key ∙ ap (λ (bytes : List ℕ). frame_key c.in-Ok-Some.packet.link bytes) c.captured.ensures) in
     let members = dividing.members ++ advanced.0 ∷ [] in
     let counted = c.in-Ok-add.ensures header dividing.members advanced.0 dividing.divides at is in (
@@ -71,29 +59,40 @@ loop-packet-preserved g c =
       },
       omega (arith, c.loop-packet.invariant.1, c.next.ensures.later),
       c.next.ensures.stays ∙ c.loop-packet.invariant.2,
+      λ names stood. c.next.ensures.picks (names ++ c.args.trace.now ∷ []) (c.loop-packet.invariant.3 names stood),
     )
+
+pub returns-in-Err-clause-sketched : goal.returns-in-Err-clause-sketched
+returns-in-Err-clause-sketched g c =
+    let contents = (g.I.Inputs.state c.args.inputs.now).contents in
+    let before = g.I.Inputs.state c.args.inputs.now in
+    let now = g.I.Inputs.state c.begin.new.inputs in
+    subst (Reads contents c.args.trace.now c.args.topology.now c.args.setting.now before now) (sym c.trace_status.ensures.value)
+    (begun_stop contents c.args.trace.now c.args.topology.now c.args.setting.now before now c.in-Err.stop c.in-Err.ensures.begun
+    (λ is. c.in-Err.ensures.cause (ap (λ (stop : PcapStop). Err stop) is)))
+
+pub returns-in-Err-next-clause-sketched : goal.returns-in-Err-next-clause-sketched
+returns-in-Err-next-clause-sketched g c =
+    let contents = (g.I.Inputs.state c.args.inputs.now).contents in
+    let before = g.I.Inputs.state c.args.inputs.now in
+    let mid = g.I.Inputs.state c.loop-packet.inputs in
+    let now = g.I.Inputs.state c.next.new.inputs in
+    let dividing = c.loop-packet.invariant.0 in
+    subst (Reads contents c.args.trace.now c.args.topology.now c.args.setting.now before now) (sym c.trace_status-in-Err-next.ensures.value)
+    (advanced_stop contents c.args.trace.now c.args.topology.now c.args.setting.now before mid now c.loop-packet.reader c.next.new.self dividing.members c.in-Err-next.stop
+    dividing.so_far dividing.divides.counts_are.divided (c.in-Err-next.ensures.advances _ dividing.members dividing.so_far) c.loop-packet.invariant.1
+    (λ is. c.in-Err-next.ensures.cause (ap (λ (stop : PcapStop). Err stop) is)))
 
 pub returns-in-Err-add-clause-sketched : goal.returns-in-Err-add-clause-sketched
 returns-in-Err-add-clause-sketched g c =
-    let contents = (g.I.Inputs.state c.args.inputs.now).contents c.args.trace.now in
-    let before = (g.I.Inputs.state c.args.inputs.now).rest in
-    let now = (g.I.Inputs.state c.next.new.inputs).rest in
-    let P = IsDivided contents c.args.topology.now c.args.setting.now in
+    let contents = (g.I.Inputs.state c.args.inputs.now).contents in
+    let before = g.I.Inputs.state c.args.inputs.now in
+    let now = g.I.Inputs.state c.next.new.inputs in
     let dividing = c.loop-packet.invariant.0 in
     let header = c.loop-packet.reader.header in
     let advanced = rw c.in-Ok-Some.field-0-is at (c.in-Ok-Some.ensures.advances _ dividing.members dividing.so_far) in
-    let at = seconds_read header dividing.members c.next.ensures.header advanced in
+    let at = packet_read header dividing.members c.next.ensures.header advanced in
     let is = key_read header dividing.members c.next.ensures.header advanced (c.key_of-key.ensures.key ∙ ap (λ (bytes : List ℕ). frame_key c.in-Ok-Some.packet.link bytes) c.captured.ensures) in
     let counted = c.in-Err-add.ensures header dividing.members advanced.0 dividing.divides at is in
-    divided_counted P c.args.setting.now c.args.topology.now c.add.new.self contents before now c.next.new.self header dividing.members advanced.0 c.in-Err-add.stop
-    c.next.ensures.header advanced.1 dividing.divides.few counted
-
-pub returns-in-Err-add-clause-cause : goal.returns-in-Err-add-clause-cause
-returns-in-Err-add-clause-cause g c =
-    let dividing = c.loop-packet.invariant.0 in
-    let header = c.loop-packet.reader.header in
-    let advanced = rw c.in-Ok-Some.field-0-is at (c.in-Ok-Some.ensures.advances _ dividing.members dividing.so_far) in
-    let at = seconds_read header dividing.members c.next.ensures.header advanced in
-    let is = key_read header dividing.members c.next.ensures.header advanced (c.key_of-key.ensures.key ∙ ap (λ (bytes : List ℕ). frame_key c.in-Ok-Some.packet.link bytes) c.captured.ensures) in
-    let counted = c.in-Err-add.ensures header dividing.members advanced.0 dividing.divides at is in
-    λ read. never_read c.args.setting.now c.args.topology.now c.add.new.self header dividing.members advanced.0 c.in-Err-add.stop counted (cc read)
+    counted_stop contents c.args.trace.now c.args.topology.now c.args.setting.now c.add.new.self before now c.next.new.self header dividing.members advanced.0 c.in-Err-add.status
+    c.next.ensures.header advanced.1 dividing.divides.counts_are.divided counted

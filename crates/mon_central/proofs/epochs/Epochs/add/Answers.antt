@@ -1,89 +1,61 @@
-use Rattle.std.proofs.Common.{◌≡◌, ℕ, ◌+◌, ◌++◌, [], ◌∷◌, max, cond, true, false, List, length, is_some, Option, Some, unwrap_or, refl, sym, ◌∙◌, ap, subst, arith, rules}
-use Rattle.std.specs.Option.{option_to_list}
+use Rattle.std.proofs.Common.{◌≡◌, ◌<◌, ◌≤◌, ◌+◌, ◌^◌, ℕ, [], ◌∷◌, ◌++◌, List, length, Option, IfSome, rules, sym, ◌∙◌, ap, subst, arith, length-append}
 use Rattle.std.proofs.lemmas.List.{with_items_is}
-use Rattle.mon_command.specs.Routed.{Routed, epoch_at, has_path, item_of, routed_of, routed_one}
-use Rattle.mon_command.specs.Sketched.{Splits}
-use Rattle.mon_command.specs.declared.sketching.Sketched.{Sketched}
-use Rattle.mon_command.proofs.OneMore.{divides_more, none_without_key, none_without_path, one_with_path, splits_same}
-use Rattle.mon_command.proofs.Splitting.{length-routed_of-le}
-use Rattle.mon_command.proofs.epochs.Epochs.add.Goals as goal
+use Rattle.std.proofs.lemmas.List.Sums.{sum_by_push}
+use Rattle.std.specs.Option.{option_to_list}
+use Rattle.flow_keys.specs.declared.routed.Routed.{Routed}
+use Rattle.routed_trace.specs.Routed.{routed_of, weight_of_routed}
+use Rattle.routed_trace.proofs.Records.{length-routed_of-le}
+use Rattle.routed_trace.proofs.Weights.{routed_light}
+use Rattle.mon_central.specs.Sketched.{Splits}
+use Rattle.mon_central.specs.declared.sketching.Sketched.{Sketched}
+use Rattle.mon_central.proofs.OneMore.{divides_more, splits_none, splits_one}
+use Rattle.mon_central.proofs.epochs.Epochs.add.Goals as goal
 
-pub returns-in_default-key : goal.returns-in_default-key
-returns-in_default-key c = λ header members member divides at is.
-    let first = c.unwrap_or-first.ensures in
-    let L = c.args.setting.now.epoch in
-    let epoch = epoch_at L (unwrap_or c.args.self.now.first c.args.seconds) c.args.seconds in
-    let full : c.epoch_at-epoch.result ≡ epoch = c.epoch_at-epoch.ensures ∙ ap (λ (f : ℕ). epoch_at L f c.args.seconds) first in
-    let routed = routed_of L c.args.topology.now header members in
-    let none = none_without_key c.args.topology.now epoch c.args.key c.in_default-key.is in
-    divides_more member divides at is (record {
-      first = ap Some first;
-      packets = refl;
-      keyed = omega (arith, ap (λ (k : Option (List ℕ)). cond {A = ℕ} (is_some k) 1 0) c.in_default-key.is);
-      more = omega (arith, ap (λ (l : List Routed). length l) none);
-      number = c.in-Ok.ensures.number ∙ ap (λ (n : ℕ). max (length c.args.self.now.sketches.items) (n + 1)) full;
-      early = omega (arith, c.if-epoch-gt-LAST.false, full);
-      splits = splits_same c.args.setting.now c.reach.new.sketches.items routed _ none (c.in-Ok.ensures.splits routed divides.splits);
-    })
+pub returns-in_default-found : goal.returns-in_default-found
+returns-in_default-found c = λ header members member divides is key_is.
+    let added = c.in-Ok.ensures.adds header members member divides.counts_are is key_is in
+    let routed = routed_of c.args.setting.now.division c.args.topology.now header members in
+    divides_more c.in-Ok.found member divides added c.in-Ok-reach.ensures.number
+    (splits_none c.args.setting.now c.reach.new.sketches.items routed c.in-Ok.found c.in_default-found.is (c.in-Ok-reach.ensures.splits routed divides.splits))
 
-pub returns-then-not-has_path : goal.returns-then-not-has_path
-returns-then-not-has_path c = λ header members member divides at is.
-    let first = c.unwrap_or-first.ensures in
-    let L = c.args.setting.now.epoch in
-    let epoch = epoch_at L (unwrap_or c.args.self.now.first c.args.seconds) c.args.seconds in
-    let full : c.epoch_at-epoch.result ≡ epoch = c.epoch_at-epoch.ensures ∙ ap (λ (f : ℕ). epoch_at L f c.args.seconds) first in
-    let routed = routed_of L c.args.topology.now header members in
-    let path : has_path c.args.topology.now c.in-Some.key ≡ false = sym c.if-not-has_path.ensures in
-    let none = none_without_path c.args.topology.now epoch c.in-Some.key c.args.key c.in-Some.is path in
-    divides_more member divides at is (record {
-      first = ap Some first;
-      packets = refl;
-      keyed = omega (arith, ap (λ (k : Option (List ℕ)). cond {A = ℕ} (is_some k) 1 0) c.in-Some.is);
-      more = omega (arith, ap (λ (l : List Routed). length l) none);
-      number = c.in-Ok.ensures.number ∙ ap (λ (n : ℕ). max (length c.args.self.now.sketches.items) (n + 1)) full;
-      early = omega (arith, c.if-epoch-gt-LAST.false, full);
-      splits = splits_same c.args.setting.now c.reach.new.sketches.items routed _ none (c.in-Ok.ensures.splits routed divides.splits);
-    })
-
-pub returns-in-Ok-add_to : goal.returns-in-Ok-add_to
-returns-in-Ok-add_to c = λ header members member divides at is.
-    let first = c.unwrap_or-first.ensures in
-    let L = c.args.setting.now.epoch in
-    let epoch = epoch_at L (unwrap_or c.args.self.now.first c.args.seconds) c.args.seconds in
-    let full : c.epoch_at-epoch.result ≡ epoch = c.epoch_at-epoch.ensures ∙ ap (λ (f : ℕ). epoch_at L f c.args.seconds) first in
-    let routed = routed_of L c.args.topology.now header members in
-    let path : has_path c.args.topology.now c.in-Some.key ≡ true = sym c.has_path.ensures ∙ c.if-not-has_path.false in
-    let none = one_with_path c.args.topology.now epoch c.in-Some.key c.args.key c.in-Some.is path in
-    let one : option_to_list (routed_one c.args.topology.now epoch c.args.key) ≡ record { epoch = c.epoch_at-epoch.result; item = item_of c.in-Some.key } ∷ [] =
-    none ∙ ap (λ (n : ℕ). record { epoch = n; item = item_of c.in-Some.key } ∷ []) (sym full) in
-    let size : length c.add_to.new.sketches ≡ c.reach.new.sketches.len = search rules in
-    let kept = with_items_is c.reach.new.sketches c.add_to.new.sketches size in
-    divides_more member divides at is (record {
-      first = ap Some first;
-      packets = refl;
-      keyed = omega (arith, ap (λ (k : Option (List ℕ)). cond {A = ℕ} (is_some k) 1 0) c.in-Some.is);
-      more = omega (arith, ap (λ (l : List Routed). length l) none);
-      number = ap (λ (l : List Sketched). length l) kept ∙ c.in-Ok-add_to.ensures.number ∙ ap (λ (l : List Sketched). length l) c.deref_mut.ensures.value ∙ c.in-Ok.ensures.number ∙ ap (λ (n : ℕ). max (length c.args.self.now.sketches.items) (n + 1)) full;
-      early = omega (arith, c.if-epoch-gt-LAST.false, full);
-      splits =
-          subst (λ (l : List Sketched). Splits c.args.setting.now l (routed ++ option_to_list (routed_one c.args.topology.now epoch c.args.key))) (sym kept)
-          (subst (λ (l : List Routed). Splits c.args.setting.now c.add_to.new.sketches (routed ++ l)) (sym one)
-          (c.in-Ok-add_to.ensures.splits c.args.setting.now routed
-          (subst (λ (l : List Sketched). Splits c.args.setting.now l routed) (sym c.deref_mut.ensures.value) (c.in-Ok.ensures.splits routed divides.splits))));
-    })
-
-pub overflow_add-self-3 : goal.overflow_add-self-3
-overflow_add-self-3 c =
-    let part = c.requires.part in
-    omega (arith, part.divides.routed_is, length-routed_of-le c.args.setting.now.epoch c.args.topology.now part.header part.members, part.few)
+pub add_to-requires-clause-within : goal.add_to-requires-clause-within
+add_to-requires-clause-within c =
+    let within : c.in-Some.routed.epoch < c.add.new.self.epochs =
+    subst (λ (f : Option Routed). IfSome f (λ (p : Routed). p.epoch < c.add.new.self.epochs)) c.in-Some.is c.in-Ok.ensures.within in
+    let size : length c.deref_mut.result.now ≡ length c.reach.new.sketches.items = ap (λ (l : List Sketched). length l) c.deref_mut.ensures.value in
+    omega (arith, within, size, c.in-Ok-reach.ensures.number)
 
 pub add_to-requires-clause-room : goal.add_to-requires-clause-room
 add_to-requires-clause-room c =
-    let part = c.requires.part in
-    let routed = routed_of c.args.setting.now.epoch c.args.topology.now part.header part.members in record {
+    let next = c.requires.next in
+    let division = c.args.setting.now.division in
+    let topology = c.args.topology.now in
+    let routed = routed_of division topology next.header next.members in
+    let added = c.in-Ok.ensures.adds next.header next.members next.member next.divides.counts_are next.packet_is next.key_is in
+    let packet = c.in-Some.routed in
+    let all = next.members ++ next.member ∷ [] in
+    let weight : weight_of_routed (routed_of division topology next.header all) ≡ weight_of_routed routed + packet.weight =
+    ap weight_of_routed (added.1 ∙ ap (λ (f : Option Routed). routed ++ option_to_list f) c.in-Some.is)
+    ∙ sum_by_push (λ (p : Routed). p.weight) routed packet in record {
       setting = c.args.setting.now;
       range = c.requires.range;
       routed = routed;
-      few = omega (arith, length-routed_of-le c.args.setting.now.epoch c.args.topology.now part.header part.members, part.divides.packets_is, c.requires.room);
-      splits = subst (λ (l : List Sketched). Splits c.args.setting.now l routed) (sym c.deref_mut.ensures.value) (c.in-Ok.ensures.splits routed part.divides.splits);
+      few = omega (arith, length-routed_of-le division topology next.header next.members, next.few);
+      light = omega (arith, weight, routed_light division topology next.header all (omega (arith, next.few, length-append next.members (next.member ∷ []))) added.0.divided);
+      splits = subst (λ (l : List Sketched). Splits c.args.setting.now l routed) (sym c.deref_mut.ensures.value) (c.in-Ok-reach.ensures.splits routed next.divides.splits);
     }
+
+pub returns-in-Ok-add_to : goal.returns-in-Ok-add_to
+returns-in-Ok-add_to c = λ header members member divides is key_is.
+    let added = c.in-Ok.ensures.adds header members member divides.counts_are is key_is in
+    let routed = routed_of c.args.setting.now.division c.args.topology.now header members in
+    let packet = c.in-Some.routed in
+    let size : length c.add_to.new.sketches ≡ c.reach.new.sketches.len = search rules in
+    let kept = with_items_is c.reach.new.sketches c.add_to.new.sketches size in
+    let same : length c.deref_mut.result.now ≡ length c.reach.new.sketches.items = ap (λ (l : List Sketched). length l) c.deref_mut.ensures.value in
+    divides_more c.in-Ok.found member divides added
+    (ap (λ (l : List Sketched). length l) kept ∙ c.in-Ok-add_to.ensures.number ∙ same ∙ c.in-Ok-reach.ensures.number)
+    (subst (λ (l : List Sketched). Splits c.args.setting.now l (routed ++ option_to_list c.in-Ok.found)) (sym kept)
+    (splits_one c.args.setting.now c.add_to.new.sketches routed c.in-Ok.found packet c.in-Some.is
+    (c.in-Ok-add_to.ensures.splits c.args.setting.now routed
+    (subst (λ (l : List Sketched). Splits c.args.setting.now l routed) (sym c.deref_mut.ensures.value) (c.in-Ok-reach.ensures.splits routed divides.splits)))))

@@ -1,8 +1,8 @@
 use Rattle.std.proofs.Common.{Bool, ◌||◌, sym, ◌∙◌, ap}
-use Rattle.mon_command.specs.Sketched.{any_mark}
-use Rattle.mon_command.proofs.Packets.{any_mark-more, or_true, or_false}
-use Rattle.mon_command.proofs.sketching.Sketched.any_dropped.Goals as goal
-use Rattle.mon_command.proofs.sketching.Sketched.any_dropped.Goals.{then-dropped, else-dropped}
+use Rattle.mon_central.specs.Sketched.{any_mark}
+use Rattle.mon_central.proofs.Packets.{any_mark-more, or_true, or_false}
+use Rattle.mon_central.proofs.sketching.Sketched.any_dropped.Goals as goal
+use Rattle.mon_central.proofs.sketching.Sketched.any_dropped.Goals.{then-dropped, else-dropped}
 
 pub loop-level-preserved : goal.loop-level-preserved
 loop-level-preserved c = λ items holds.

@@ -1,8 +1,8 @@
 use Rattle.std.proofs.Common.{◌∙◌, ap}
 use Rattle.hash_family.specs.Setting as sketch
-use Rattle.mon_command.proofs.Ranges.{if_ok_weaker}
-use Rattle.mon_command.proofs.Views.{block_is}
-use Rattle.mon_command.proofs.sketching.Sketched.block.Goals as goal
+use Rattle.mon_central.proofs.Ranges.{if_ok_weaker}
+use Rattle.mon_central.proofs.Views.{block_is}
+use Rattle.mon_central.proofs.sketching.Sketched.block.Goals as goal
 
 pub level_counts-requires-clause-levels : goal.level_counts-requires-clause-levels
 level_counts-requires-clause-levels c = ap (λ (s : sketch.Setting). s.levels) c.requires.merged.shape

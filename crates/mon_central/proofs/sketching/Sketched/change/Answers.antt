@@ -1,7 +1,7 @@
 use Rattle.std.proofs.Common.{◌∙◌, sym}
-use Rattle.mon_command.proofs.Ranges.{if_ok_weaker}
-use Rattle.mon_command.proofs.Views.{change_is}
-use Rattle.mon_command.proofs.sketching.Sketched.change.Goals as goal
+use Rattle.mon_central.proofs.Ranges.{if_ok_weaker}
+use Rattle.mon_central.proofs.Views.{change_is}
+use Rattle.mon_central.proofs.sketching.Sketched.change.Goals as goal
 
 pub change_text-requires-clause-setting : goal.change_text-requires-clause-setting
 change_text-requires-clause-setting c = c.requires.merged.shape ∙ sym c.requires.before.shape

@@ -2,9 +2,9 @@ use Rattle.std.proofs.Common.{◌≡◌, ◌+◌, ◌*◌, ◌++◌, ℕ, List, 
 use Rattle.std.proofs.lemmas.List.Elements.{All-append}
 use Rattle.count_sketch.specs.Counters.{AllUpTo}
 use Rattle.sketch_levels.specs.Levels.{level_at}
-use Rattle.mon_command.specs.Sketched.{counters_up_to}
-use Rattle.mon_command.proofs.Ranges.{flat_map-range}
-use Rattle.mon_command.proofs.sketching.Sketched.counters.Goals as goal
+use Rattle.mon_central.specs.Sketched.{counters_up_to}
+use Rattle.mon_central.proofs.Ranges.{flat_map-range}
+use Rattle.mon_central.proofs.sketching.Sketched.counters.Goals as goal
 
 pub loop-level-preserved : goal.loop-level-preserved
 loop-level-preserved c =

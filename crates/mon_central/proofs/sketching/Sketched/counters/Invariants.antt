@@ -1,7 +1,7 @@
 use Rattle.std.proofs.Common.{◌≡◌, ◌*◌, length}
 use Rattle.count_sketch.specs.Counters.{AllUpTo}
-use Rattle.mon_command.specs.Sketched.{counters_up_to}
-use Rattle.mon_command.proofs.sketching.Sketched.counters.Given as goal
+use Rattle.mon_central.specs.Sketched.{counters_up_to}
+use Rattle.mon_central.proofs.sketching.Sketched.counters.Given as goal
 
 abbrev pub invariant-loop-level : goal.invariant-loop-level
 invariant-loop-level l =

@@ -3,10 +3,10 @@ use Rattle.hash_family.specs.Setting as sketch
 use Rattle.sketch_levels.specs.Kept as levels
 use Rattle.sketch_levels.specs.Items.{live_items}
 use Rattle.std.specs.Prelude.{map}
-use Rattle.mon_command.proofs.Kept.{few_live}
-use Rattle.mon_command.proofs.Packets.{kept_all, kept_heap, noted_some, noted_nothing}
-use Rattle.mon_command.proofs.Ranges.{if_ok_weaker}
-use Rattle.mon_command.proofs.sketching.Sketched.kept.Goals as goal
+use Rattle.mon_central.proofs.Kept.{few_live}
+use Rattle.mon_central.proofs.Packets.{kept_all, kept_heap, noted_some, noted_nothing}
+use Rattle.mon_central.proofs.Ranges.{if_ok_weaker}
+use Rattle.mon_central.proofs.sketching.Sketched.kept.Goals as goal
 
 pub returns-in-Some-clause-value : goal.returns-in-Some-clause-value
 returns-in-Some-clause-value c = if_ok_weaker c.keys.result (λ keys all items sketches.

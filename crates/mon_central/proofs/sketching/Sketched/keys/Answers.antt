@@ -7,9 +7,9 @@ use Rattle.std.proofs.lemmas.List.Elements.{All-push}
 use Rattle.std.proofs.lemmas.List.FromFn.{map-range_with_len_more}
 use Rattle.flow_keys.specs.declared.key.FlowKey.{FlowKey}
 use Rattle.sketch_levels.specs.Items.{live_items}
-use Rattle.mon_command.specs.Central.{kept_keys}
-use Rattle.mon_command.specs.Sketched.{keys_up_to}
-use Rattle.mon_command.proofs.sketching.Sketched.keys.Goals as goal
+use Rattle.mon_central.specs.Central.{kept_keys}
+use Rattle.mon_central.specs.Sketched.{keys_up_to}
+use Rattle.mon_central.proofs.sketching.Sketched.keys.Goals as goal
 
 pub loop-level-preserved : goal.loop-level-preserved
 loop-level-preserved c =

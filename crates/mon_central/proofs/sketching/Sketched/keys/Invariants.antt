@@ -3,8 +3,8 @@ use Rattle.std.specs.Cmp.Lexicographic.{slice_cmp}
 use Rattle.std.specs.Ordering.{nat_cmp}
 use Rattle.std.specs.List.Sorted.{IsStrictlySortedBy}
 use Rattle.count_sketch.specs.Counters.{Item}
-use Rattle.mon_command.specs.Sketched.{Sketches, keys_up_to}
-use Rattle.mon_command.proofs.sketching.Sketched.keys.Given as goal
+use Rattle.mon_central.specs.Sketched.{Sketches, keys_up_to}
+use Rattle.mon_central.proofs.sketching.Sketched.keys.Given as goal
 
 abbrev pub invariant-loop-level : goal.invariant-loop-level
 invariant-loop-level l =

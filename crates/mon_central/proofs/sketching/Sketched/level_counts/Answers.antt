@@ -2,8 +2,8 @@ use Rattle.std.proofs.Common.{◌≡◌, ℕ, ◌+◌, List, [], ◌∷◌, ◌+
 use Rattle.std.specs.List.{range_with_len}
 use Rattle.std.proofs.lemmas.List.FromFn.{map-range_with_len_more}
 use Rattle.change_report.specs.declared.level_count.LevelCount.{LevelCount}
-use Rattle.mon_command.specs.Central.{level_count}
-use Rattle.mon_command.proofs.sketching.Sketched.level_counts.Goals as goal
+use Rattle.mon_central.specs.Central.{level_count}
+use Rattle.mon_central.proofs.sketching.Sketched.level_counts.Goals as goal
 
 pub loop-level-preserved : goal.loop-level-preserved
 loop-level-preserved c = λ items sketches view.

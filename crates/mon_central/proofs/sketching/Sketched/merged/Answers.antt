@@ -3,13 +3,13 @@ use Rattle.std.specs.List.{range_with_len}
 use Rattle.std.proofs.lemmas.List.Elements.{All-map}
 use Rattle.hash_family.specs.Setting as sketch
 use Rattle.sketch_merge.specs.Merged.{HaveUpTo}
-use Rattle.mon_command.specs.Central.{levels_setting, drops}
-use Rattle.mon_command.specs.Sketched.{any_mark}
-use Rattle.mon_command.proofs.Packets.{drops_is, not_some}
-use Rattle.mon_command.proofs.Ranges.{if_ok_by_three, if_ok_by_five}
-use Rattle.mon_command.proofs.Views.{counters_joined, counters_shaped, level_counters, view_is}
-use Rattle.mon_command.proofs.sketching.Sketched.merged.Goals as goal
-use Rattle.mon_command.proofs.sketching.Sketched.merged.Goals.{then-is_none, else-is_none}
+use Rattle.mon_central.specs.Central.{levels_setting, drops}
+use Rattle.mon_central.specs.Sketched.{any_mark}
+use Rattle.mon_central.proofs.Packets.{drops_is, not_some}
+use Rattle.mon_central.proofs.Ranges.{if_ok_by_three, if_ok_by_five}
+use Rattle.mon_central.proofs.Views.{counters_joined, counters_shaped, level_counters, view_is}
+use Rattle.mon_central.proofs.sketching.Sketched.merged.Goals as goal
+use Rattle.mon_central.proofs.sketching.Sketched.merged.Goals.{then-is_none, else-is_none}
 
 pub returns-clause-value : goal.returns-clause-value
 returns-clause-value c =

@@ -1,0 +1,4 @@
+pub mod Central
+pub mod Duty
+pub mod Live
+pub mod Sketched

@@ -1,0 +1,19 @@
+//! The command `central`: one sketch of each epoch of a trace, its levels and its measures.
+//!
+//! - `central`: `central` and `central_routed`, the command without and with a topology
+//! - `epochs`: a trace as it is sketched; `dividing`: the sketches of the epochs; `sketching`, `live`: the packets of an
+//!   epoch; `blocks`, `text`: the text
+//!
+//! `specs/Central.antt` says the text as a function of the setting, the topology and the records of the trace;
+//! `specs/Duty.antt` says what the command owes.
+#![tactic(auto)]
+
+mod blocks;
+mod central;
+mod dividing;
+mod epochs;
+mod live;
+mod sketching;
+mod text;
+
+pub use central::{central_alone, central_routed};
