@@ -95,11 +95,13 @@ fn bad(fault: PcapFault) -> Option<PcapStop> {
 // The frame comes three times, and then the end.
 fn assert_frames<I: Inputs>(rt: &impl Abort, alloc: Global, inputs: &mut I) -> Result<(), Fail> {
     let mut reader = PcapReader::begin(alloc, inputs, "trace")?;
+    assert_eq!(rt; reader.captured(), b"".as_slice());
     for _ in 0..3 {
         assert_eq!(rt; reader.next(inputs), Ok(Some(PACKET)));
         assert_eq!(rt; reader.captured(), FRAME.as_slice());
     }
     assert_eq!(rt; reader.next(inputs), Ok(None));
+    assert_eq!(rt; reader.captured(), FRAME.as_slice());
     Ok(())
 }
 
@@ -115,6 +117,32 @@ fn gives_each_packet(rt: HostRuntime) -> Result<(), Fail> {
         inputs: inputs(alloc, bytes, &[])?,
     };
     assert_frames(&rt, alloc, &mut trickle)
+}
+
+// Times in nanoseconds with little-endian numbers, in microseconds with big-endian ones, and each link.
+#[test]
+fn reads_every_magic_and_link(rt: HostRuntime) -> Result<(), Fail> {
+    let alloc = rt.alloc();
+    let little = [0x4d, 0x3c, 0xb2, 0xa1];
+    let big = [0xa1, 0xb2, 0xc3, 0xd4];
+    for (header, head, magic, at, number, link) in [
+        (LITTLE, LITTLE_HEAD, little, 20, [1, 0], Link::Ethernet),
+        (LITTLE, LITTLE_HEAD, little, 20, [101, 0], Link::Raw),
+        (BIG, BIG_HEAD, big, 22, [0, 113], Link::Cooked1),
+        (BIG, BIG_HEAD, big, 22, [1, 20], Link::Cooked2),
+    ] {
+        let mut bytes = trace(alloc, &header, &head)?;
+        bytes[..4].copy_from_slice(&magic);
+        bytes[at..at + 2].copy_from_slice(&number);
+        let mut inputs = inputs(alloc, bytes, &[])?;
+        let mut reader = PcapReader::begin(alloc, &mut inputs, "trace")?;
+        let packet = reader.next(&mut inputs);
+        assert!(rt;
+            packet.is_ok_and(|packet| packet.is_some_and(|packet| packet.link == link)),
+            "{number:?}"
+        );
+    }
+    Ok(())
 }
 
 // The trace of three little-endian records with four bytes changed at a place, cut to a length.
@@ -199,6 +227,7 @@ fn stops_at_a_failed_read(rt: HostRuntime) -> Result<(), Fail> {
     let mut reader = PcapReader::begin(alloc, &mut failing, "trace")?;
     assert_eq!(rt; reader.next(&mut failing), Ok(Some(PACKET)));
     assert_eq!(rt; reader.next(&mut failing), Err(PcapStop::Read));
+    assert_eq!(rt; reader.captured(), b"".as_slice());
     assert_eq!(rt; reader.next(&mut failing), Err(PcapStop::Read));
     assert_eq!(rt;
         PcapReader::begin(alloc, &mut failing, "other").err(),
