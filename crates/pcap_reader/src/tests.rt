@@ -119,28 +119,41 @@ fn gives_each_packet(rt: HostRuntime) -> Result<(), Fail> {
     assert_frames(&rt, alloc, &mut trickle)
 }
 
+// The trace of three records of the frame, with two bytes changed at each of two places.
+fn changed(
+    alloc: Global,
+    (header, head): (&[u8], &[u8]),
+    changes: [(usize, [u8; 2]); 2],
+) -> Result<Vec<u8>, AllocError> {
+    let mut bytes = trace(alloc, header, head)?;
+    for (at, new) in changes {
+        for (byte, new) in bytes.iter_mut().skip(at).zip(new) {
+            *byte = new;
+        }
+    }
+    Ok(bytes)
+}
+
+// The link of the first packet, if there is one.
+fn first_link<I: Inputs>(alloc: Global, inputs: &mut I) -> Option<Link> {
+    let mut reader = PcapReader::begin(alloc, inputs, "trace").ok()?;
+    Some(reader.next(inputs).ok()??.link)
+}
+
 // Times in nanoseconds with little-endian numbers, in microseconds with big-endian ones, and each link.
 #[test]
 fn reads_every_magic_and_link(rt: HostRuntime) -> Result<(), Fail> {
     let alloc = rt.alloc();
-    let little = [0x4d, 0x3c, 0xb2, 0xa1];
-    let big = [0xa1, 0xb2, 0xc3, 0xd4];
-    for (header, head, magic, at, number, link) in [
-        (LITTLE, LITTLE_HEAD, little, 20, [1, 0], Link::Ethernet),
-        (LITTLE, LITTLE_HEAD, little, 20, [101, 0], Link::Raw),
-        (BIG, BIG_HEAD, big, 22, [0, 113], Link::Cooked1),
-        (BIG, BIG_HEAD, big, 22, [1, 20], Link::Cooked2),
+    let little = (LITTLE.as_slice(), LITTLE_HEAD.as_slice());
+    let big = (BIG.as_slice(), BIG_HEAD.as_slice());
+    for (parts, changes, link) in [
+        (little, [(0, [0x4d, 0x3c]), (20, [1, 0])], Link::Ethernet),
+        (little, [(0, [0x4d, 0x3c]), (20, [101, 0])], Link::Raw),
+        (big, [(2, [0xc3, 0xd4]), (22, [0, 113])], Link::Cooked1),
+        (big, [(2, [0xc3, 0xd4]), (22, [1, 20])], Link::Cooked2),
     ] {
-        let mut bytes = trace(alloc, &header, &head)?;
-        bytes[..4].copy_from_slice(&magic);
-        bytes[at..at + 2].copy_from_slice(&number);
-        let mut inputs = inputs(alloc, bytes, &[])?;
-        let mut reader = PcapReader::begin(alloc, &mut inputs, "trace")?;
-        let packet = reader.next(&mut inputs);
-        assert!(rt;
-            packet.is_ok_and(|packet| packet.is_some_and(|packet| packet.link == link)),
-            "{number:?}"
-        );
+        let mut inputs = inputs(alloc, changed(alloc, parts, changes)?, &[])?;
+        assert_eq!(rt; first_link(alloc, &mut inputs), Some(link), "{changes:?}");
     }
     Ok(())
 }
