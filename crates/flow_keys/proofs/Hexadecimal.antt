@@ -28,16 +28,20 @@ onto zero n acc = refl
 onto (suc k) n acc =
     let last = digit_glyph false (n % 16) ∷ [] in
     cond-append (n / 16 == 0) last _ _ acc
-    (onto k (n / 16) (digit_glyph false (n % 16) ∷ acc) ∙ sym (append_assoc _ last acc) ∙ ap (λ x. x ++ acc) (sym (onto k (n / 16) last)))
+    (onto k (n / 16) (digit_glyph false (n % 16) ∷ acc) ∙ sym (append_assoc _ last acc)
+    ∙ ap (λ x. x ++ acc) (sym (onto k (n / 16) last)))
 
 -- more places than a number wants
-enough : (k n : ℕ) (acc : List ℕ) → n < 16 ^ suc k → digits_onto (suc k) 16 false n acc ≡ digits_onto (suc (suc k)) 16 false n acc
+enough : (k n : ℕ) (acc : List ℕ) → n < 16 ^ suc k
+    → digits_onto (suc k) 16 false n acc ≡ digits_onto (suc (suc k)) 16 false n acc
 enough zero n acc small =
     let one : (n / 16 == 0) ≡ true = eq-eqb (n / 16) 0 (omega arith) in
     cond-true (n / 16 == 0) _ _ one ∙ sym (cond-true (n / 16 == 0) _ _ one)
-enough (suc k) n acc small = cond-else (n / 16 == 0) _ _ _ (enough k (n / 16) (digit_glyph false (n % 16) ∷ acc) (omega arith))
+enough (suc k) n acc small =
+    cond-else (n / 16 == 0) _ _ _ (enough k (n / 16) (digit_glyph false (n % 16) ∷ acc) (omega arith))
 
-first_digit : (k n : ℕ) (acc : List ℕ) → 16 ≤ n → digits_onto (suc k) 16 false n acc ≡ digits_onto k 16 false (n / 16) (digit_glyph false (n % 16) ∷ acc)
+first_digit : (k n : ℕ) (acc : List ℕ) → 16 ≤ n
+    → digits_onto (suc k) 16 false n acc ≡ digits_onto k 16 false (n / 16) (digit_glyph false (n % 16) ∷ acc)
 first_digit k n acc large = cond-false (n / 16 == 0) _ _ (ne_eqb (n / 16) 0 (omega arith))
 
 -- a number below 16 is its digit
@@ -45,7 +49,8 @@ pub hexadecimal_digit : (n : ℕ) → n < 16 → hexadecimal n ≡ digit_glyph f
 hexadecimal_digit n small = hex_one_digit false n small
 
 -- the last digit stands behind the number without it
-pub hexadecimal_step : (n : ℕ) → 16 ≤ n → n < 65536 → hexadecimal n ≡ hexadecimal (n / 16) ++ (digit_glyph false (n % 16) ∷ [])
+pub hexadecimal_step : (n : ℕ) → 16 ≤ n → n < 65536
+    → hexadecimal n ≡ hexadecimal (n / 16) ++ (digit_glyph false (n % 16) ∷ [])
 unfolding digits
 hexadecimal_step n large small =
     let last = digit_glyph false (n % 16) ∷ [] in
@@ -55,7 +60,9 @@ length_le : (k n : ℕ) → n < 16 ^ suc k → n < 65536 → length (hexadecimal
 length_le zero n few small = omega (arith, ap length (hexadecimal_digit n (omega arith)))
 length_le (suc k) n few small = ⊎_elim
     (λ one. omega (arith, ap length (hexadecimal_digit n one)))
-    (λ more. let whole = ap length (hexadecimal_step n more small) in omega (arith, simp length-append at whole, length_le k (n / 16) (omega arith) (omega arith)))
+    (λ more. let whole =
+    ap length (hexadecimal_step n more small) in omega
+    (arith, simp length-append at whole, length_le k (n / 16) (omega arith) (omega arith)))
     (cases_lt n 16)
 
 -- at most four digits

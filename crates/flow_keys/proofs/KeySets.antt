@@ -36,15 +36,19 @@ turn true true c = refl
 turn true false c = refl
 turn false b c = refl
 
-any-with_key : (q : List ℕ) (keys : List (List ℕ)) (key : List ℕ) → list_any (same q) (with_key keys key) ≡ (same q key || list_any (same q) keys)
+any-with_key : (q : List ℕ) (keys : List (List ℕ)) (key : List ℕ)
+    → list_any (same q) (with_key keys key) ≡ (same q key || list_any (same q) keys)
 any-with_key q [] key = refl
 any-with_key q (x ∷ keys) key = by_order (slice_cmp nat_cmp key x)
     (λ less. rw less refl)
-    (λ equal. rw equal (twice (same q x) (list_any (same q) keys) ∙ ap (λ (k : List ℕ). same q k || (same q x || list_any (same q) keys)) (sym (exact_bytes key x equal))))
-    (λ greater. rw greater (ap (λ b. same q x || b) (any-with_key q keys key) ∙ swap (same q x) (same q key) (list_any (same q) keys)))
+    (λ equal. rw equal (twice (same q x) (list_any (same q) keys)
+    ∙ ap (λ (k : List ℕ). same q k || (same q x || list_any (same q) keys)) (sym (exact_bytes key x equal))))
+    (λ greater. rw greater (ap (λ b. same q x || b) (any-with_key q keys key)
+    ∙ swap (same q x) (same q key) (list_any (same q) keys)))
 
 -- the keys of two lists, of which the second is put in key by key
-pub any-fold : (q : List ℕ) (front keys : List (List ℕ)) → list_any (same q) (fold with_key front keys) ≡ (list_any (same q) front || list_any (same q) keys)
+pub any-fold : (q : List ℕ) (front keys : List (List ℕ))
+    → list_any (same q) (fold with_key front keys) ≡ (list_any (same q) front || list_any (same q) keys)
 any-fold q front [] = or_none (list_any (same q) front)
 any-fold q front (key ∷ keys) =
     any-fold q (with_key front key) keys

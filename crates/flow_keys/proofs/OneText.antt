@@ -13,16 +13,16 @@ use Rattle.flow_keys.specs.Text.{ipv4_text, ipv6_text, address_text, text_of}
 use Rattle.flow_keys.proofs.Fields.{SameField, SameAddress, same_decimal, same_ipv4, same_ipv6, ipv4-is_no-ipv6}
 
 -- a key of family 4, with no more than one word an address
-record IsShort (words : List ℕ) : Type 0 where
-  family : slice_index words 0 ≡ 4
-  at_2 : slice_index words 2 ≡ 0
-  at_3 : slice_index words 3 ≡ 0
-  at_4 : slice_index words 4 ≡ 0
-  at_6 : slice_index words 6 ≡ 0
-  at_7 : slice_index words 7 ≡ 0
-  at_8 : slice_index words 8 ≡ 0
+pub record IsShort (words : List ℕ) : Type 0 where
+  pub family : slice_index words 0 ≡ 4
+  pub at_2 : slice_index words 2 ≡ 0
+  pub at_3 : slice_index words 3 ≡ 0
+  pub at_4 : slice_index words 4 ≡ 0
+  pub at_6 : slice_index words 6 ≡ 0
+  pub at_7 : slice_index words 7 ≡ 0
+  pub at_8 : slice_index words 8 ≡ 0
 
-families : (words : List ℕ) → IsTrue (is_valid words) → IsShort words ⊎ (slice_index words 0 ≡ 6)
+pub families : (words : List ℕ) → IsTrue (is_valid words) → IsShort words ⊎ (slice_index words 0 ≡ 6)
 families words valid = ⊎_elim
     (λ six. inr six.1)
     (λ other. inl record {
@@ -36,17 +36,21 @@ families words valid = ⊎_elim
     })
     (eqb_tells (slice_index words 0) 6)
 
-word_fits : (words : List ℕ) → IsKey words → (k : ℕ) → slice_index words k < 2 ^ 32
+pub word_fits : (words : List ℕ) → IsKey words → (k : ℕ) → slice_index words k < 2 ^ 32
 word_fits words key k = ⊎_elim
     (λ inside. key.each k 0 inside)
     (λ past. omega (arith, get_or_past words k 0 past))
     (cases_lt k (length words))
 
-short_address : (words : List ℕ) (at : ℕ) → slice_index words 0 ≡ 4 → address_text words at ≡ ipv4_text (slice_index words at)
-short_address words at four = ap (λ b. cond b (ipv4_text (slice_index words at)) (ipv6_text words at)) (eq-eqb (slice_index words 0) 4 four)
+pub short_address : (words : List ℕ) (at : ℕ) → slice_index words 0 ≡ 4
+    → address_text words at ≡ ipv4_text (slice_index words at)
+short_address words at four =
+    ap (λ b. cond b (ipv4_text (slice_index words at)) (ipv6_text words at)) (eq-eqb (slice_index words 0) 4 four)
 
-long_address : (words : List ℕ) (at : ℕ) → slice_index words 0 ≡ 6 → address_text words at ≡ ipv6_text words at
-long_address words at six = ap (λ b. cond b (ipv4_text (slice_index words at)) (ipv6_text words at)) (ne_eqb (slice_index words 0) 4 (omega arith))
+pub long_address : (words : List ℕ) (at : ℕ) → slice_index words 0 ≡ 6 → address_text words at ≡ ipv6_text words at
+long_address words at six =
+    ap (λ b. cond b (ipv4_text (slice_index words at)) (ipv6_text words at))
+    (ne_eqb (slice_index words 0) 4 (omega arith))
 
 -- the text from the destination port on, and from the source port on
 abbrev ending : List ℕ → List ℕ
@@ -79,26 +83,34 @@ record SameBehind (xs ys : List ℕ) : Type 0 where
 
 same_behind : (xs ys : List ℕ) → IsKey xs → IsKey ys → behind_source xs ≡ behind_source ys → SameBehind xs ys
 same_behind xs ys p q e =
-    let port = same_decimal _ _ 32 32 _ _ (omega (arith, word_fits xs p 9)) (omega (arith, word_fits ys q 9)) (omega arith) (omega arith) e in
+    let port = same_decimal _ _ 32 32 _ _ (omega (arith, word_fits xs p 9)) (omega (arith, word_fits ys q 9))
+    (omega arith) (omega arith) e in
     record { port = port.value; rest = port.rest }
 
 -- the addresses of two texts at a place
-at_place : (xs ys a b c d : List ℕ) (at : ℕ) → address_text xs at ≡ a → address_text ys at ≡ b → address_text xs at ++ c ≡ address_text ys at ++ d → a ++ c ≡ b ++ d
+at_place : (xs ys a b c d : List ℕ) (at : ℕ) → address_text xs at ≡ a → address_text ys at ≡ b
+    → address_text xs at ++ c ≡ address_text ys at ++ d → a ++ c ≡ b ++ d
 at_place xs ys a b c d at p q e = sym (ap (λ x. x ++ c) p) ∙ e ∙ ap (λ x. x ++ d) q
 
-short_place : (xs ys c d : List ℕ) (at : ℕ) → IsKey xs → IsKey ys → IsShort xs → IsShort ys → address_text xs at ++ (32 ∷ c) ≡ address_text ys at ++ (32 ∷ d)
+short_place : (xs ys c d : List ℕ) (at : ℕ) → IsKey xs → IsKey ys → IsShort xs → IsShort ys
+    → address_text xs at ++ (32 ∷ c) ≡ address_text ys at ++ (32 ∷ d)
     → SameField (slice_index xs at) (slice_index ys at) 32 32 c d
 short_place xs ys c d at p q s t e =
-    same_ipv4 _ _ c d (word_fits xs p at) (word_fits ys q at) (at_place xs ys _ _ (32 ∷ c) (32 ∷ d) at (short_address xs at s.family) (short_address ys at t.family) e)
+    same_ipv4 _ _ c d (word_fits xs p at) (word_fits ys q at)
+    (at_place xs ys _ _ (32 ∷ c) (32 ∷ d) at (short_address xs at s.family) (short_address ys at t.family) e)
 
-long_place : (xs ys c d : List ℕ) (at : ℕ) → IsKey xs → IsKey ys → slice_index xs 0 ≡ 6 → slice_index ys 0 ≡ 6 → address_text xs at ++ (32 ∷ c) ≡ address_text ys at ++ (32 ∷ d)
+long_place : (xs ys c d : List ℕ) (at : ℕ) → IsKey xs → IsKey ys → slice_index xs 0 ≡ 6 → slice_index ys 0 ≡ 6
+    → address_text xs at ++ (32 ∷ c) ≡ address_text ys at ++ (32 ∷ d)
     → SameAddress xs ys at c d
 long_place xs ys c d at p q s t e =
-    same_ipv6 xs ys at c d (word_fits xs p) (word_fits ys q) (at_place xs ys _ _ (32 ∷ c) (32 ∷ d) at (long_address xs at s) (long_address ys at t) e)
+    same_ipv6 xs ys at c d (word_fits xs p) (word_fits ys q)
+    (at_place xs ys _ _ (32 ∷ c) (32 ∷ d) at (long_address xs at s) (long_address ys at t) e)
 
-mixed : (xs ys c d : List ℕ) → IsKey xs → IsKey ys → IsShort xs → slice_index ys 0 ≡ 6 → address_text xs 1 ++ c ≡ address_text ys 1 ++ d → ⊥
+mixed : (xs ys c d : List ℕ) → IsKey xs → IsKey ys → IsShort xs → slice_index ys 0 ≡ 6
+    → address_text xs 1 ++ c ≡ address_text ys 1 ++ d → ⊥
 mixed xs ys c d p q s t e =
-    ipv4-is_no-ipv6 _ ys 1 c d (word_fits xs p 1) (word_fits ys q) (at_place xs ys _ _ c d 1 (short_address xs 1 s.family) (long_address ys 1 t) e)
+    ipv4-is_no-ipv6 _ ys 1 c d (word_fits xs p 1) (word_fits ys q)
+    (at_place xs ys _ _ c d 1 (short_address xs 1 s.family) (long_address ys 1 t) e)
 
 -- lists of eleven words, one after the other
 record SameWords (xs ys : List ℕ) : Type 0 where
@@ -117,14 +129,18 @@ record SameWords (xs ys : List ℕ) : Type 0 where
 same_below : (xs ys : List ℕ) → SameWords xs ys → (k : ℕ) → k < 11 → slice_index xs k ≡ slice_index ys k
 same_below xs ys same =
     let At : ℕ → Type 0 = λ k. slice_index xs k ≡ slice_index ys k in
-    let below_4 = below_more At 3 (below_more At 2 (below_more At 1 (below_more At 0 (below_none At) same.at_0) same.at_1) same.at_2) same.at_3 in
-    let below_8 = below_more At 7 (below_more At 6 (below_more At 5 (below_more At 4 below_4 same.at_4) same.at_5) same.at_6) same.at_7 in
+    let below_4 = below_more At 3
+    (below_more At 2 (below_more At 1 (below_more At 0 (below_none At) same.at_0) same.at_1) same.at_2) same.at_3 in
+    let below_8 = below_more At 7
+    (below_more At 6 (below_more At 5 (below_more At 4 below_4 same.at_4) same.at_5) same.at_6) same.at_7 in
     below_more At 10 (below_more At 9 (below_more At 8 below_8 same.at_8) same.at_9) same.at_10
 
 same_key : (xs ys : List ℕ) → IsKey xs → IsKey ys → SameWords xs ys → xs ≡ ys
-same_key xs ys p q same = same_number_lists xs ys (p.size ∙ sym q.size) (λ k small. same_below xs ys same k (omega (arith, p.size)))
+same_key xs ys p q same =
+    same_number_lists xs ys (p.size ∙ sym q.size) (λ k small. same_below xs ys same k (omega (arith, p.size)))
 
-short_keys : (xs ys : List ℕ) → IsKey xs → IsKey ys → IsShort xs → IsShort ys → address_text xs 1 ++ (32 ∷ behind_source xs) ≡ address_text ys 1 ++ (32 ∷ behind_source ys) → SameWords xs ys
+short_keys : (xs ys : List ℕ) → IsKey xs → IsKey ys → IsShort xs → IsShort ys
+    → address_text xs 1 ++ (32 ∷ behind_source xs) ≡ address_text ys 1 ++ (32 ∷ behind_source ys) → SameWords xs ys
 short_keys xs ys p q s t e =
     let source = short_place xs ys (behind_source xs) (behind_source ys) 1 p q s t e in
     let behind = same_behind xs ys p q source.rest in
@@ -144,7 +160,8 @@ short_keys xs ys p q s t e =
       at_10 = end.protocol;
     }
 
-long_keys : (xs ys : List ℕ) → IsKey xs → IsKey ys → slice_index xs 0 ≡ 6 → slice_index ys 0 ≡ 6 → address_text xs 1 ++ (32 ∷ behind_source xs) ≡ address_text ys 1 ++ (32 ∷ behind_source ys) → SameWords xs ys
+long_keys : (xs ys : List ℕ) → IsKey xs → IsKey ys → slice_index xs 0 ≡ 6 → slice_index ys 0 ≡ 6
+    → address_text xs 1 ++ (32 ∷ behind_source xs) ≡ address_text ys 1 ++ (32 ∷ behind_source ys) → SameWords xs ys
 long_keys xs ys p q s t e =
     let source = long_place xs ys (behind_source xs) (behind_source ys) 1 p q s t e in
     let behind = same_behind xs ys p q source.rest in

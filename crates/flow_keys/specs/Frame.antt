@@ -69,7 +69,9 @@ is_ipv4 packet = nat_le 20 (length packet) && slice_index packet 0 / 16 == 4 && 
 unfoldable pub ipv4_key : List ℕ → Option (List ℕ)
 ipv4_key packet =
     if is_ipv4 packet
-    then option_map (λ ports. 4 ∷ big_32 packet 12 ∷ 0 ∷ 0 ∷ 0 ∷ big_32 packet 16 ∷ 0 ∷ 0 ∷ 0 ∷ ports ∷ slice_index packet 9 ∷ []) (ipv4_ports packet)
+    then option_map
+    (λ ports. 4 ∷ big_32 packet 12 ∷ 0 ∷ 0 ∷ 0 ∷ big_32 packet 16 ∷ 0 ∷ 0 ∷ 0 ∷ ports ∷ slice_index packet 9 ∷ [])
+    (ipv4_ports packet)
     else None
 
 -- RFC 8200, section 3: version 6, a header of 40 bytes
@@ -79,7 +81,10 @@ is_ipv6 packet = nat_le 40 (length packet) && slice_index packet 0 / 16 == 6
 unfoldable pub ipv6_key : List ℕ → Option (List ℕ)
 ipv6_key packet =
     if is_ipv6 packet
-    then option_map (λ ports. 6 ∷ big_32 packet 8 ∷ big_32 packet 12 ∷ big_32 packet 16 ∷ big_32 packet 20 ∷ big_32 packet 24 ∷ big_32 packet 28 ∷ big_32 packet 32 ∷ big_32 packet 36 ∷ ports ∷ slice_index packet 6 ∷ []) (ports_behind packet (slice_index packet 6) 40)
+    then option_map (λ ports.
+    6 ∷ big_32 packet 8 ∷ big_32 packet 12 ∷ big_32 packet 16 ∷ big_32 packet 20
+    ∷ big_32 packet 24 ∷ big_32 packet 28 ∷ big_32 packet 32 ∷ big_32 packet 36
+    ∷ ports ∷ slice_index packet 6 ∷ []) (ports_behind packet (slice_index packet 6) 40)
     else None
 
 abbrev pub network_key : Network → Option (List ℕ)

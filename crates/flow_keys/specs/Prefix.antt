@@ -1,10 +1,11 @@
 -- IP prefixes: their text, and the flow keys that they hold.
-use Rattle.std.specs.Prelude.{ℕ, ◌+◌, ◌-◌, ◌*◌, ◌/◌, ◌^◌, ◌==◌, ◌&&◌, ◌||◌, nat_lt, nat_le, Bool, List, [], ◌∷◌, ◌++◌, length, take, drop, map, replicate, slice_index, Option, Some, None, option_and_then, Result, Ok, Err, if◌then◌else◌}
+use Rattle.std.specs.Prelude.{◌≡◌, ℕ, ◌+◌, ◌-◌, ◌*◌, ◌/◌, ◌^◌, ◌==◌, ◌&&◌, ◌||◌, nat_lt, nat_le, Bool, List, [], ◌∷◌, ◌++◌, length, take, drop, map, replicate, slice_index, codes, Option, Some, None, option_and_then, Result, Ok, Err, if◌then◌else◌}
 use Rattle.std.specs.List.{list_all, slice_split, position_or_len, before_first, after_first}
 use Rattle.std.specs.Char.{is_digit}
 use Rattle.std.specs.Option.{option_map_or}
 use Rattle.std.specs.Str.Parse.{digits_value}
 use Rattle.flow_keys.specs.Numbers.{big_32}
+use Rattle.flow_keys.specs.Text.{address_text}
 use Rattle.flow_keys.specs.declared.prefix_fault.PrefixFault.{PrefixFault}
 use Rattle.flow_keys.specs.declared.prefix_fault.PrefixFault.TheVariants.{Address, Length}
 use Rattle.flow_keys.specs.declared.side.Side.{Side}
@@ -48,12 +49,14 @@ number_of base most digits = if is_number base most digits then Some (digits_val
 -- the numbers that parts spell, None where a part is no number or there are more than eight, the most that an address has
 unfoldable pub numbers_of : ℕ → ℕ → List (List ℕ) → Option (List ℕ)
 numbers_of base most parts =
-    if list_all (is_number base most) parts && nat_le (length parts) 8 then Some (map (digits_value base) parts) else None
+    if list_all (is_number base most) parts && nat_le (length parts) 8 then Some
+    (map (digits_value base) parts) else None
 
 -- numbers and one more, eight at most
 unfoldable pub pushed : ℕ → ℕ → List ℕ → List ℕ → Option (List ℕ)
 pushed base most numbers part =
-    if is_number base most part && nat_lt (length numbers) 8 then Some (numbers ++ digits_value base part ∷ []) else None
+    if is_number base most part && nat_lt (length numbers) 8 then Some
+    (numbers ++ digits_value base part ∷ []) else None
 
 -- four numbers of 0 to 255 are the bytes of the first word, and the other words are 0
 unfoldable pub ipv4_words : List ℕ → Option (List ℕ)
@@ -100,7 +103,9 @@ groups_around front back =
 unfoldable pub ipv6_address : List ℕ → Option (List ℕ)
 ipv6_address text =
     if nat_lt (gap_place text) (length text)
-    then option_and_then (λ front. option_and_then (groups_around front) (groups_of (drop (gap_place text + 2) text))) (groups_of (take (gap_place text) text))
+    then option_and_then
+    (λ front. option_and_then (groups_around front) (groups_of (drop (gap_place text + 2) text)))
+    (groups_of (take (gap_place text) text))
     else option_and_then eight_groups (groups_of text)
 
 -- a length: a decimal number of up to three digits, at most so many bits
@@ -110,12 +115,18 @@ bits_of most digits = option_and_then (λ bits. if nat_le bits most then Some bi
 -- a prefix of an address that is read, with the text of its length
 unfoldable pub with_length : ℕ → List ℕ → List ℕ → Result Seen PrefixFault
 with_length family digits words =
-    option_map_or (λ bits. Ok (record { family = family; words = words; bits = bits })) (bits_of (family_bits family) digits) (Err Length)
+    option_map_or (λ bits. Ok (record {
+      family =
+          family;
+      words = words;
+      bits = bits;
+    })) (bits_of (family_bits family) digits) (Err Length)
 
 -- the text of an address and the text of a length
 unfoldable pub prefix_between : List ℕ → List ℕ → Result Seen PrefixFault
 prefix_between address digits =
-    option_map_or (with_length 4 digits) (ipv4_address address) (option_map_or (with_length 6 digits) (ipv6_address address) (Err Address))
+    option_map_or (with_length 4 digits) (ipv4_address address)
+    (option_map_or (with_length 6 digits) (ipv6_address address) (Err Address))
 
 -- the prefix that a text spells: an address, '/' and the length
 unfoldable pub prefix_of : List ℕ → Result Seen PrefixFault
@@ -132,7 +143,8 @@ first_word Destination = 5
 -- four words from a place on as a number of 128 bits
 unfoldable pub address_number : List ℕ → ℕ → ℕ
 address_number words at =
-    slice_index words at * 2 ^ 96 + slice_index words (at + 1) * 2 ^ 64 + slice_index words (at + 2) * 2 ^ 32 + slice_index words (at + 3)
+    slice_index words at * 2 ^ 96 + slice_index words (at + 1) * 2 ^ 64 + slice_index words
+    (at + 2) * 2 ^ 32 + slice_index words (at + 3)
 
 -- the first bits of a number of 128 bits
 abbrev pub first_bits : ℕ → ℕ → ℕ
@@ -142,4 +154,31 @@ first_bits bits number = number / 2 ^ (128 - bits)
 unfoldable pub holds : Seen → List ℕ → Side → Bool
 holds prefix key side =
     prefix.family == slice_index key 0
-    && first_bits prefix.bits (address_number prefix.words 0) == first_bits prefix.bits (address_number key (first_word side))
+    && first_bits prefix.bits (address_number prefix.words 0) == first_bits prefix.bits
+    (address_number key (first_word side))
+
+-- four words from a place on
+abbrev pub words_from : List ℕ → ℕ → List ℕ
+words_from words at =
+    slice_index words at ∷ slice_index words (at + 1) ∷ slice_index words (at + 2) ∷ slice_index words (at + 3) ∷ []
+
+-- the address of a key on a side
+abbrev pub address_of : List ℕ → Side → List ℕ
+address_of key side = words_from key (first_word side)
+
+-- a whole address behind which its length stands
+abbrev pub whole_text : List ℕ → Side → List ℕ
+whole_text key side =
+    address_text key (first_word side) ++ (if slice_index key 0 == 4 then codes "/32" else codes "/128")
+
+-- the prefix of all bits of a key's address
+abbrev pub whole_prefix : List ℕ → Side → Seen
+whole_prefix key side = record {
+  family = slice_index key 0;
+  words = address_of key side;
+  bits = family_bits (slice_index key 0);
+}
+
+-- two keys are of one family, and the one on its side has the address of the other on its side
+abbrev pub HasAddress : List ℕ → Side → List ℕ → Side → Type 0
+HasAddress other at key side = (slice_index other 0 ≡ slice_index key 0) × (address_of other at ≡ address_of key side)

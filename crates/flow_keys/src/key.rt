@@ -1,11 +1,14 @@
 //! The flow key of a packet.
 ghost use Rattle.std.specs.Prelude.{◌≡◌, ◌<◌, ◌^◌, [], ◌∷◌, slice_index, SomeIff, IsTrue, All};
+ghost use Rattle.std.specs.Cmp.Lexicographic.{slice_cmp};
+ghost use Rattle.std.specs.Ordering.{nat_cmp};
 ghost use Rattle.flow_keys.specs.Key.{is_valid, IsKey};
 
+use std::cmp::Ordering;
 use std::marker::Model;
 
 /// A flow's key, seen as eleven words: family (4 or 6), source (4 words), destination (4 words),
-/// `source port * 65536 + destination port`, and protocol. Keys are ordered by their words.
+/// `source port * 65536 + destination port`, and protocol. Keys are ordered as their lists of words.
 #[derive(Clone, Copy, Debug, PartialEq, Eq, PartialOrd, Ord, Hash)]
 pub struct FlowKey {
     words: [u32; 11],
@@ -46,6 +49,13 @@ impl FlowKey {
         self.words
     }
 
+    /// The order of two keys, which is also that of `cmp`: that of the first word in which they differ.
+    pub fn compare(&self, other: &FlowKey) -> Ordering
+        ensures order { result ≡ slice_cmp nat_cmp self.now other.now }
+    {
+        self.cmp(other)
+    }
+
     /// The key of an IPv4 packet, by its addresses, both ports and its protocol.
     pub(crate) fn ipv4(source: u32, destination: u32, ports: u32, protocol: u8) -> FlowKey
         ensures { result ≡ 4 ∷ source ∷ 0 ∷ 0 ∷ 0 ∷ destination ∷ 0 ∷ 0 ∷ 0 ∷ ports ∷ protocol ∷ [] }
@@ -60,7 +70,8 @@ impl FlowKey {
     pub(crate) fn ipv6(source: [u32; 4], destination: [u32; 4], ports: u32, protocol: u8) -> FlowKey
         ensures { result ≡ 6
             ∷ slice_index source 0 ∷ slice_index source 1 ∷ slice_index source 2 ∷ slice_index source 3
-            ∷ slice_index destination 0 ∷ slice_index destination 1 ∷ slice_index destination 2 ∷ slice_index destination 3
+            ∷ slice_index destination 0 ∷ slice_index destination 1
+            ∷ slice_index destination 2 ∷ slice_index destination 3
             ∷ ports ∷ protocol ∷ [] }
     {
         let [a, b, c, d] = source;

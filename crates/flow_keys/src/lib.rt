@@ -16,7 +16,8 @@
 //!
 //! `specs/Frame.antt` says by byte positions which key a frame has; `specs/Text.antt` says the text of a key;
 //! `specs/Prefix.antt` says, by the parts of a text between separators, which prefix it spells, and which keys
-//! a prefix holds. No call takes memory. Two keys with one text are one key, as `one_text_one_key` says.
+//! a prefix holds. No call takes memory. Two keys with one text are one key, as `one_text_one_key` says, and the text
+//! of a whole address is the prefix that holds it alone, as `one_address` says.
 #![tactic(auto)]
 
 mod address;
@@ -37,7 +38,7 @@ mod text;
 pub use frame::key_of;
 pub use key::FlowKey;
 pub use link::Link;
-pub use prefix::Prefix;
+pub use prefix::{Prefix, one_address};
 pub use prefix_fault::PrefixFault;
 pub use routed::Routed;
 pub use side::Side;

@@ -87,7 +87,8 @@ pub(crate) fn ipv6_key(packet: &[u8]) -> Option<FlowKey>
 // An IPv6 address as four words.
 fn address_at(packet: &[u8], at: usize) -> [u32; 4]
     requires { at + 16 ≤ length packet.now }
-    ensures { result ≡ big_32 packet.now at ∷ big_32 packet.now (at + 4) ∷ big_32 packet.now (at + 8) ∷ big_32 packet.now (at + 12) ∷ [] }
+    ensures { result ≡ big_32 packet.now at ∷ big_32 packet.now (at + 4)
+        ∷ big_32 packet.now (at + 8) ∷ big_32 packet.now (at + 12) ∷ [] }
 {
     [
         big_32_at(packet, at),

@@ -1,5 +1,7 @@
 //! IP prefixes.
-ghost use Rattle.std.specs.Prelude.{◌≡◌, ◌+◌, ◌^◌, ◌<◌, ◌≤◌, true, length, IfSome};
+ghost use Rattle.std.specs.Prelude.{◌≡◌, ◌==◌, ◌↔◌, ◌+◌, ◌^◌, ◌<◌, ◌≤◌, true, List, ℕ, Ok, All, length, slice_index, IfSome};
+ghost use Rattle.flow_keys.specs.Key.{IsKey};
+ghost use Rattle.flow_keys.specs.Prefix.{HasAddress, Seen, whole_prefix, whole_text};
 ghost use Rattle.flow_keys.specs.Prefix.{is_prefix, prefix_of, prefix_between, with_length, bits_of, family_bits, holds, address_number, first_bits};
 
 use crate::address::{ipv4_address, ipv6_address};
@@ -134,3 +136,14 @@ fn first_bits(number: u128, bits: u8) -> u128
     }
     number >> (128 - bits)
 }
+
+/// The text of a key's address, `/` and 32 or 128 is read as the prefix that holds exactly the keys with this address.
+/// A prefix of length 0 holds every key of its family.
+pub fn one_address()
+    ensures read { (key : List ℕ) (side : Side) → IsKey key →
+        prefix_of (whole_text key side) ≡ Ok (whole_prefix key side) }
+    ensures one { (key other : List ℕ) (side at : Side) → IsKey key → IsKey other →
+        (holds (whole_prefix key side) other at ≡ true) ↔ HasAddress other at key side }
+    ensures all { (prefix : Seen) (key : List ℕ) (side : Side) → IsKey key → All (λ word. word < 2 ^ 32) prefix.words →
+        prefix.bits ≡ 0 → holds prefix key side ≡ (prefix.family == slice_index key 0) }
+{}

@@ -1,5 +1,6 @@
 // Worked frames, whose keys and texts were written by hand, and prefixes of both families.
 use crate::{FlowKey, Link, Prefix, PrefixFault, Side, key_of, key_text};
+use std::cmp::Ordering;
 
 // Ethernet, IPv4, UDP: 10.0.0.1 port 1000 to 10.1.0.2 port 53.
 const FRAME_A: [u8; 42] = [
@@ -61,13 +62,56 @@ fn frames_have_their_texts(rt: HostRuntime) {
 }
 
 #[test]
+fn frames_at_the_edges(rt: HostRuntime) {
+    let mut service = TAGGED;
+    service[16] = 0x88;
+    service[17] = 0xa8;
+    let mut extended = FRAME_D;
+    extended[26] = 0;
+    let ports_of_0 = "2001:db8:0:0:0:0:0:1 0 2001:db8:0:0:0:0:0:2 0 0";
+    let cases = [
+        (Link::Ethernet, &service[4..], TEXT_A),
+        (Link::Cooked1, &TAGGED[6..], NO_KEY),
+        (Link::Cooked2, &extended[..], ports_of_0),
+        (Link::Raw, &FRAME_D[20..63], NO_KEY),
+        (Link::Raw, &FRAME_D[20..64], TEXT_D),
+    ];
+    for (link, bytes, text) in cases {
+        assert!(rt; has_text(link, bytes, text), "{text}");
+    }
+}
+
+#[test]
 fn frame_a_has_its_words(rt: HostRuntime) {
     let key = key_of(Link::Ethernet, &FRAME_A);
     assert!(rt; key.is_some_and(|key| key.words() == WORDS_A));
     assert!(rt; FlowKey::from_words(WORDS_A) == key);
-    let mut family_5 = WORDS_A;
-    family_5[0] = 5;
-    assert!(rt; FlowKey::from_words(family_5).is_none());
+}
+
+// The family, an unused word of each address, and the protocol.
+#[test]
+fn other_words_are_no_key(rt: HostRuntime) {
+    for (place, word) in [(0, 5), (4, 1), (6, 1), (10, 256)] {
+        let mut words = WORDS_A;
+        words[place] = word;
+        assert!(rt; FlowKey::from_words(words).is_none(), "{word} at {place}");
+    }
+}
+
+// A later source, and a lesser protocol behind the same addresses.
+#[test]
+fn keys_are_ordered_by_their_words(rt: HostRuntime) {
+    let key = FlowKey::from_words(WORDS_A).expect(&rt, "a key");
+    for (place, word, order) in [
+        (1, 167772162, Ordering::Greater),
+        (10, 6, Ordering::Less),
+        (10, 17, Ordering::Equal),
+    ] {
+        let mut words = WORDS_A;
+        words[place] = word;
+        let other = FlowKey::from_words(words).expect(&rt, "a key");
+        assert_eq!(rt; other.compare(&key), order, "{word} at {place}");
+    }
 }
 
 fn reads(text: &str, family: u32, words: [u32; 4], length: u8) -> bool {

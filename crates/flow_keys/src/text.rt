@@ -159,5 +159,6 @@ pub fn key_text(key: &FlowKey) -> KeyText
 /// Two keys with one text are one key.
 #[tactic(auto, using(crate::proofs::OneText::one_text_one_key))]
 pub fn one_text_one_key()
-    ensures { (first second : List ℕ) → IsKey first → IsKey second → text_of first ≡ text_of second → first ≡ second }
+    ensures one { (first second : List ℕ) → IsKey first → IsKey second →
+        text_of first ≡ text_of second → first ≡ second }
 {}

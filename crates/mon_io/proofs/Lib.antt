@@ -1,2 +1,3 @@
-pub mod Told
+pub mod Ahead
 pub mod Named
+pub mod Told

@@ -51,7 +51,8 @@ TookAtMost limit contents before now =
     (now ≡ before) ⊎ ((front : List ℕ) × (length front ≤ limit) × Took contents now front)
 
 -- How a reading of the whole contents ended: it is too long exactly where more bytes than the limit were taken.
-abbrev pub ReadsContents : {V : Type 0} → (V → List ℕ) → ℕ → Option (List ℕ) → Option (List ℕ) → Option (List ℕ) → Result V ReadStop → Type 0
+abbrev pub ReadsContents : {V : Type 0} → (V → List ℕ) → ℕ → Option (List ℕ) → Option (List ℕ) → Option (List ℕ)
+    → Result V ReadStop → Type 0
 ReadsContents bytes_of limit contents before now (Ok bytes) =
     Took contents now (bytes_of bytes) × IsOver now × (length (bytes_of bytes) ≤ limit)
 ReadsContents bytes_of limit contents before now (Err TooLong) =

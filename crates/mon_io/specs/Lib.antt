@@ -1,10 +1,14 @@
 pub mod Faults
 pub mod Files
+pub mod HostInputs
+pub mod HostSink
 pub mod Inputs
 pub mod MemInputs
 pub mod MemSink
 pub mod NeverInputs
 pub mod NeverSink
+pub mod ReadAhead
 pub mod Room
 pub mod Shelf
 pub mod Sink
+pub mod Source

@@ -9,7 +9,7 @@ abbrev pub mem_inputs_state : MemInputs → InputState
 mem_inputs_state inputs = record {
   contents = contents_of inputs.shelf.files.items;
   rest = Some (shelf_rest inputs.shelf);
-  faults = inputs.faults;
+  faults = inputs.faults.count;
 }
 
 abbrev pub mem_inputs_rest : MemInputs → List ℕ

@@ -5,7 +5,7 @@ use Rattle.mon_io.specs.Room.{room_bytes, free_room}
 use Rattle.mon_io.specs.declared.mem_sink.MemSink.{MemSink}
 
 abbrev pub mem_sink_state : MemSink → SinkState
-mem_sink_state sink = record { written = Some (room_bytes sink.room); faults = sink.faults }
+mem_sink_state sink = record { written = Some (room_bytes sink.room); faults = sink.faults.count }
 
 abbrev pub mem_sink_bytes : MemSink → List ℕ
 mem_sink_bytes sink = room_bytes sink.room

@@ -5,7 +5,7 @@ use Rattle.mon_io.specs.Room.{room_bytes, free_room}
 use Rattle.mon_io.specs.declared.never_sink.NeverSink.{NeverSink}
 
 abbrev pub never_sink_state : NeverSink → SinkState
-never_sink_state sink = record { written = Some (room_bytes sink.room); faults = sink.faults }
+never_sink_state sink = record { written = Some (room_bytes sink.room); faults = sink.faults.count }
 
 abbrev pub never_sink_bytes : NeverSink → List ℕ
 never_sink_bytes sink = room_bytes sink.room

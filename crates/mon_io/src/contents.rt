@@ -3,6 +3,7 @@ ghost use Rattle.std.specs.Prelude.{◌≡◌, ◌≤◌, ◌<◌, ◌+◌, [], 
 ghost use Rattle.mon_io.specs.Faults.{Rose, HasCause};
 ghost use Rattle.mon_io.specs.Inputs.{Picked, PickedNothing, ReadsContents, Reads, Took, IsOver};
 
+use crate::read_ahead::AHEAD;
 use crate::{Fault, Inputs};
 use std::alloc::{AllocError, Global};
 
@@ -17,8 +18,6 @@ pub enum ReadStop {
     Memory,
 }
 
-const CHUNK: usize = 65536;
-
 /// The contents of the named input, of at most `limit` bytes. `TooLong` comes exactly where one byte
 /// more than `limit` was read, and `Fault` only where the count of faults rose.
 pub fn read_all<I: Inputs>(
@@ -27,7 +26,8 @@ pub fn read_all<I: Inputs>(
     name: &str,
     limit: usize,
 ) -> Result<Vec<u8>, ReadStop>
-    ensures contents { IfOk result (λ bytes. IfSome ((I.state inputs.old).contents name.now) (λ told. bytes.items ≡ told)) }
+    ensures contents { IfOk result (λ bytes.
+        IfSome ((I.state inputs.old).contents name.now) (λ told. bytes.items ≡ told)) }
     ensures reads { ReadsContents (λ bytes. bytes.items) limit
         ((I.state inputs.old).contents name.now) (I.state inputs.old).rest (I.state inputs.new).rest result }
     ensures told { is_some (I.state inputs.new).rest ≡ is_some (I.state inputs.old).rest }
@@ -45,11 +45,11 @@ pub fn read_all<I: Inputs>(
     read_rest(alloc, inputs, &mut chunk, limit)
 }
 
-// A buffer of CHUNK bytes.
+// A buffer of AHEAD bytes.
 fn chunk_of(alloc: Global) -> Result<Vec<u8>, AllocError>
-    ensures { IfOk result (λ chunk. length chunk.items ≡ CHUNK) }
+    ensures size { IfOk result (λ chunk. length chunk.items ≡ AHEAD) }
 {
-    vec![in alloc; 0u8; CHUNK]
+    vec![in alloc; 0u8; AHEAD]
 }
 
 // All that is left of the picked input, through a buffer.
@@ -59,7 +59,7 @@ fn read_rest<I: Inputs>(
     chunk: &mut [u8],
     limit: usize,
 ) -> Result<Vec<u8>, ReadStop>
-    requires { 0 < length chunk.old }
+    requires room { 0 < length chunk.old }
     ensures reads { ReadsContents (λ bytes. bytes.items) limit
         (I.state inputs.old).rest (I.state inputs.old).rest (I.state inputs.new).rest result }
     ensures told { is_some (I.state inputs.new).rest ≡ is_some (I.state inputs.old).rest }
@@ -88,9 +88,10 @@ fn read_rest<I: Inputs>(
 
 // Reads into the front of a buffer, at most one byte more than there is room for.
 fn read_piece<I: Inputs>(inputs: &mut I, chunk: &mut [u8], room: usize) -> Result<usize, Fault>
-    requires { 0 < length chunk.old }
+    requires room { 0 < length chunk.old }
     ensures bytes { MatchResult result
-        (λ n. Took (I.state inputs.old).rest (I.state inputs.new).rest (take n chunk.new) × (n ≡ 0 → IsOver (I.state inputs.new).rest))
+        (λ n. Took (I.state inputs.old).rest (I.state inputs.new).rest (take n chunk.new)
+        × (n ≡ 0 → IsOver (I.state inputs.new).rest))
         (λ _. (I.state inputs.new).rest ≡ (I.state inputs.old).rest) }
     ensures bound { IfOk result (λ n. (n ≤ length chunk.new) × (n ≤ room + 1)) }
     ensures picks { PickedNothing (I.picks inputs.old) (I.picks inputs.new) }

@@ -1,151 +1,89 @@
 //! Files and standard input as inputs: a trusted edge.
-ghost use Rattle.std.specs.Prelude.{◌≡◌, ◌≤◌, None, length, IfOk};
+ghost use Rattle.std.specs.Prelude.{◌≡◌, [], ◌∷◌, OnOk, OnErr, is_some};
 ghost use Rattle.std.specs.Io.{ReadsAtMost};
-ghost use Rattle.mon_io.specs.Faults.{HasCause, next_count};
-ghost use Rattle.mon_io.specs.Inputs.{InputState, PickedAny};
+ghost use Rattle.std.specs.Io.KnownBytes.{ReadConsumes};
+ghost use Rattle.mon_io.specs.Faults.{HasCause};
+ghost use Rattle.mon_io.specs.HostInputs.{host_inputs_state, host_ahead, host_picked, host_remaining};
+ghost use Rattle.mon_io.specs.Inputs.{Picked, PickedAny, PickedNothing, Reads};
 
+use crate::fault_count::FaultCount;
+use crate::read_ahead::ReadAhead;
+use crate::source::Source;
 use crate::{Fault, Inputs};
-use std::io::Read;
 use std::rt::Files;
 use std::{fs, io};
-
-const AHEAD: usize = 65536;
 
 /// The files and the standard input of `R`, read ahead by 64 KiB. They tell no bytes, and count each
 /// failure. Standard input is to be picked once, since what was read ahead of it isn't given back.
 #[derive(Drop)]
 pub struct HostInputs<'a, R: Files + Input> {
     rt: &'a R,
-    picked: Picked<R::File, R::Reader>,
-    ahead: [u8; 65536],
-    start: usize,
-    end: usize,
-    faults: u64,
-    ghost ordered: { start ≤ end },
-    ghost within: { end ≤ 65536 },
-}
-
-// What is read.
-#[derive(Drop)]
-enum Picked<F, S> {
-    Nothing,
-    File(F),
-    Standard(S),
+    picked: ReadAhead<Source<R::File, R::Reader>>,
+    faults: FaultCount,
 }
 
 impl<'a, R: Files + Input> HostInputs<'a, R> {
     /// Nothing picked, and no fault so far.
     pub fn new(rt: &'a R) -> Self
-        ensures { (⟦<HostInputs<'a, R> as Inputs>⟧.state result).faults ≡ 0 }
+        ensures faults { (⟦<HostInputs<'a, R> as Inputs>⟧.state result).faults ≡ 0 }
+        ensures ahead { host_ahead result ≡ [] }
     {
         HostInputs {
             rt,
-            picked: Picked::Nothing,
-            ahead: [0; 65536],
-            start: 0,
-            end: 0,
-            faults: 0,
+            picked: ReadAhead::new(Source::Nothing),
+            faults: FaultCount::new(),
         }
-    }
-
-    // Reads straight into `buf`, past what is read ahead.
-    fn read_past(&mut self, buf: &mut [u8]) -> Result<usize, Fault>
-        ensures bound { ReadsAtMost result buf.new }
-        ensures cause { HasCause self.old.faults self.new.faults result }
-    {
-        let Ok(count) = read_picked(&mut self.picked, buf) else {
-            return Err(self.fault());
-        };
-        Ok(count)
-    }
-
-    // Reads ahead as much as the picked stream gives at once, in place of what was ahead.
-    fn read_ahead(&mut self) -> Result<(), Fault>
-        ensures cause { HasCause self.old.faults self.new.faults result }
-    {
-        let Ok(count) = read_picked(&mut self.picked, &mut self.ahead) else {
-            return Err(self.fault());
-        };
-        self.start = 0;
-        self.end = count;
-        Ok(())
-    }
-
-    // Takes off what was read ahead, as much as there is or fits into `buf`.
-    fn take_ahead(&mut self, buf: &mut [u8]) -> usize
-        ensures bound { result ≤ length buf.new }
-        ensures faults { self.new.faults ≡ self.old.faults }
-    {
-        let count = copied(&self.ahead[self.start..self.end], buf);
-        self.start += count;
-        count
-    }
-
-    fn fault(&mut self) -> Fault
-        ensures raised { self.new.faults ≡ next_count self.old.faults }
-        ensures later { self.old.faults ≤ self.new.faults }
-    {
-        self.faults = self.faults.saturating_add(1);
-        Fault
     }
 }
 
 // What the name stands for: `-` is standard input.
-fn opened<R: Files + Input>(rt: &R, name: &str) -> io::Result<Picked<R::File, R::Reader>> {
+fn opened<R: Files + Input>(rt: &R, name: &str) -> io::Result<Source<R::File, R::Reader>> {
     if name == "-" {
-        Ok(Picked::Standard(rt.reader()))
+        Ok(Source::Standard(rt.reader()))
     } else {
-        Ok(Picked::File(fs::open(rt, name)?))
+        Ok(Source::File(fs::open(rt, name)?))
     }
-}
-
-// Reads from what is picked, straight into `into`.
-fn read_picked<F: Read, S: Read>(picked: &mut Picked<F, S>, into: &mut [u8]) -> io::Result<usize>
-    ensures { ReadsAtMost result into.new }
-{
-    match picked {
-        Picked::Nothing => Ok(0),
-        Picked::File(file) => file.read(into),
-        Picked::Standard(input) => input.read(into),
-    }
-}
-
-// Copies the front of `from` into the front of `into`, as much as there is or fits.
-fn copied(from: &[u8], into: &mut [u8]) -> usize
-    ensures from { result ≤ length from.now }
-    ensures into { result ≤ length into.new }
-{
-    let count = from.len().min(into.len());
-    into[..count].copy_from_slice(&from[..count]);
-    count
 }
 
 impl<'a, R: Files + Input> Inputs for HostInputs<'a, R> {
-    ghost state = { λ inputs. record { contents = λ _. None; rest = None; faults = inputs.faults } };
+    ghost state = { host_inputs_state };
 
     ghost picks = { PickedAny };
 
     /// A `Fault` where the name can't be opened.
-    fn pick(&mut self, name: &str) -> Result<(), Fault> {
-        match opened(self.rt, name) {
-            Ok(picked) => {
-                self.picked = picked;
-                self.start = 0;
-                self.end = 0;
-                Ok(())
-            }
-            Err(_) => Err(self.fault()),
-        }
+    fn pick(&mut self, name: &str) -> Result<(), Fault>
+        ensures picked { OnOk result
+            ((host_inputs_state self.new).rest ≡ (host_inputs_state self.old).contents name.now) }
+        ensures kept { OnErr result ((host_inputs_state self.new).rest ≡ (host_inputs_state self.old).rest) }
+        ensures told { is_some (host_inputs_state self.new).rest ≡ is_some (host_inputs_state self.old).rest }
+        ensures stays { (host_inputs_state self.new).contents ≡ (host_inputs_state self.old).contents }
+        ensures picks { Picked (PickedAny self.old) (PickedAny self.new) (name.now ∷ []) }
+        ensures cause { HasCause (host_inputs_state self.old).faults (host_inputs_state self.new).faults result }
+        // Nothing stays ahead of what was picked before, and a failed pick changes nothing of it.
+        ensures fresh { OnOk result (host_ahead self.new ≡ []) }
+        ensures same { OnErr result (host_picked self.new ≡ host_picked self.old) }
+    {
+        let Ok(source) = opened(self.rt, name) else {
+            return Err(self.faults.next());
+        };
+        self.picked = ReadAhead::new(source);
+        Ok(())
     }
 
     /// A `Fault` where the system's read fails, as that of a folder does.
-    fn read(&mut self, buf: &mut [u8]) -> Result<usize, Fault> {
-        if self.start == self.end {
-            if buf.len() >= AHEAD {
-                return self.read_past(buf);
-            }
-            self.read_ahead()?;
+    fn read(&mut self, buf: &mut [u8]) -> Result<usize, Fault>
+        ensures bound { ReadsAtMost result buf.new }
+        ensures bytes { Reads (host_inputs_state self.old).rest (host_inputs_state self.new).rest result buf.new }
+        ensures stays { (host_inputs_state self.new).contents ≡ (host_inputs_state self.old).contents }
+        ensures picks { PickedNothing (PickedAny self.old) (PickedAny self.new) }
+        ensures cause { HasCause (host_inputs_state self.old).faults (host_inputs_state self.new).faults result }
+        // What was read ahead comes first, and then what the stream gives.
+        ensures remaining { ReadConsumes (host_remaining R.File.remaining R.Reader.remaining self.old)
+            (host_remaining R.File.remaining R.Reader.remaining self.new) result buf.new }
+    {
+        match self.picked.read(buf) {
+            Ok(count) => Ok(count),
+            Err(_) => Err(self.faults.next()),
         }
-        Ok(self.take_ahead(buf))
     }
 }

@@ -1,43 +1,58 @@
-//! Standard output as a sink: a trusted edge.
-ghost use Rattle.std.specs.Prelude.{◌≡◌, ◌≤◌, None};
-ghost use Rattle.mon_io.specs.Faults.{next_count};
-ghost use Rattle.mon_io.specs.Sink.{SinkState};
+//! A writer as a sink, and standard output: a trusted edge.
+ghost use Rattle.std.specs.Prelude.{◌≡◌, None};
+ghost use Rattle.mon_io.specs.Faults.{HasCause};
+ghost use Rattle.mon_io.specs.HostSink.{PassesOn};
+ghost use Rattle.mon_io.specs.Sink.{SinkState, KeepsRoom, Writes};
 
+use crate::fault_count::FaultCount;
 use crate::{Fault, Sink};
+use std::io;
+use std::io::{Printer, Write};
 
-/// The standard output of `R`. It tells no bytes, and counts each write that fails or takes nothing.
+/// A writer, as the standard output. It tells no bytes, and counts each write that fails or takes nothing.
 #[derive(Drop)]
-pub struct HostSink<'a, R: Print> {
-    rt: &'a R,
-    faults: u64,
+pub struct HostSink<W> {
+    pub(crate) writer: W,
+    faults: FaultCount,
 }
 
-impl<'a, R: Print> HostSink<'a, R> {
-    /// The standard output, with no fault so far.
+impl<'a, R: Print> HostSink<Printer<'a, R>> {
+    /// The standard output of `R`, with no fault so far.
     pub fn new(rt: &'a R) -> Self
-        ensures { (⟦<HostSink<'a, R> as Sink>⟧.state result).faults ≡ 0 }
+        ensures faults { (⟦<HostSink<Printer<'a, R>> as Sink>⟧.state result).faults ≡ 0 }
     {
-        HostSink { rt, faults: 0 }
-    }
-
-    fn fault(&mut self) -> Fault
-        ensures raised { self.new.faults ≡ next_count self.old.faults }
-        ensures later { self.old.faults ≤ self.new.faults }
-    {
-        self.faults = self.faults.saturating_add(1);
-        Fault
+        HostSink::over(io::writer(rt))
     }
 }
 
-impl<'a, R: Print> Sink for HostSink<'a, R> {
-    ghost state = { λ sink. record { written = None; faults = sink.faults } };
+impl<W: Write> HostSink<W> {
+    // A writer, with no fault so far.
+    pub(crate) fn over(writer: W) -> Self
+        ensures faults { result.faults.count ≡ 0 }
+        ensures writer { result.writer ≡ writer }
+    {
+        HostSink {
+            writer,
+            faults: FaultCount::new(),
+        }
+    }
+}
+
+impl<W: Write> Sink for HostSink<W> {
+    ghost state = { λ sink. record { written = None; faults = sink.faults.count } };
 
     ghost sure_room = { λ _. 0 };
 
-    fn write(&mut self, piece: &[u8]) -> Result<usize, Fault> {
-        match self.rt.write_some(piece) {
-            Err(_) => Err(self.fault()),
-            Ok(0) if !piece.is_empty() => Err(self.fault()),
+    fn write(&mut self, piece: &[u8]) -> Result<usize, Fault>
+        ensures bytes { Writes None None result piece.now }
+        ensures sure { KeepsRoom 0 0 result }
+        ensures cause { HasCause self.old.faults.count self.new.faults.count result }
+        // The writer was given the bytes that are answered for, and no other.
+        ensures passed { PassesOn (W.contents self.old.writer) (W.contents self.new.writer) result piece.now }
+    {
+        match self.writer.write(piece) {
+            Err(_) => Err(self.faults.next()),
+            Ok(0) if !piece.is_empty() => Err(self.faults.next()),
             Ok(count) => Ok(count),
         }
     }

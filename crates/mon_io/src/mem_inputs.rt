@@ -6,6 +6,7 @@ ghost use Rattle.mon_io.specs.Files.{contents_of};
 ghost use Rattle.mon_io.specs.Inputs.{Picked, PickedAny, PickedNothing, Reads};
 ghost use Rattle.mon_io.specs.MemInputs.{mem_inputs_state, mem_inputs_rest, failing_calls, calls_made};
 
+use crate::fault_count::FaultCount;
 use crate::script::Script;
 use crate::shelf::Shelf;
 use crate::{Fault, Inputs};
@@ -15,7 +16,7 @@ use crate::{Fault, Inputs};
 pub struct MemInputs {
     shelf: Shelf,
     script: Script,
-    faults: u64,
+    faults: FaultCount,
 }
 
 impl MemInputs {
@@ -30,16 +31,8 @@ impl MemInputs {
         MemInputs {
             shelf: Shelf::new(files),
             script: Script::new(fails),
-            faults: 0,
+            faults: FaultCount::new(),
         }
-    }
-
-    fn fault(&mut self) -> Fault
-        ensures raised { self.new ≡ record self.old { faults = next_count self.old.faults } }
-        ensures later { self.old.faults ≤ self.new.faults }
-    {
-        self.faults = self.faults.saturating_add(1);
-        Fault
     }
 }
 
@@ -49,7 +42,8 @@ impl Inputs for MemInputs {
     ghost picks = { PickedAny };
 
     fn pick(&mut self, name: &str) -> Result<(), Fault>
-        ensures picked { OnOk result ((mem_inputs_state self.new).rest ≡ (mem_inputs_state self.old).contents name.now) }
+        ensures picked { OnOk result
+            ((mem_inputs_state self.new).rest ≡ (mem_inputs_state self.old).contents name.now) }
         ensures kept { OnErr result ((mem_inputs_state self.new).rest ≡ (mem_inputs_state self.old).rest) }
         ensures told { is_some (mem_inputs_state self.new).rest ≡ is_some (mem_inputs_state self.old).rest }
         ensures stays { (mem_inputs_state self.new).contents ≡ (mem_inputs_state self.old).contents }
@@ -63,12 +57,12 @@ impl Inputs for MemInputs {
         ensures script { failing_calls self.new ≡ failing_calls self.old }
     {
         if self.script.next_fails() {
-            return Err(self.fault());
+            return Err(self.faults.next());
         }
         if self.shelf.pick(name) {
             Ok(())
         } else {
-            Err(self.fault())
+            Err(self.faults.next())
         }
     }
 
@@ -87,7 +81,7 @@ impl Inputs for MemInputs {
         ensures script { failing_calls self.new ≡ failing_calls self.old }
     {
         if self.script.next_fails() {
-            return Err(self.fault());
+            return Err(self.faults.next());
         }
         Ok(self.shelf.read(buf))
     }

@@ -4,6 +4,7 @@ ghost use Rattle.mon_io.specs.Faults.{HasCause, CountsFailure, is_due, next_coun
 ghost use Rattle.mon_io.specs.Sink.{Writes, KeepsRoom};
 ghost use Rattle.mon_io.specs.MemSink.{mem_sink_state, mem_sink_bytes, mem_sink_room, failing_writes, writes_made};
 
+use crate::fault_count::FaultCount;
 use crate::room::Room;
 use crate::script::Script;
 use crate::{Fault, Memory, Sink};
@@ -14,7 +15,7 @@ use std::alloc::Global;
 pub struct MemSink {
     room: Room,
     script: Script,
-    faults: u64,
+    faults: FaultCount,
 }
 
 impl MemSink {
@@ -29,23 +30,15 @@ impl MemSink {
         Ok(MemSink {
             room: Room::new(alloc, room)?,
             script: Script::new(fails),
-            faults: 0,
+            faults: FaultCount::new(),
         })
     }
 
     /// The bytes written. It takes no memory.
     pub fn bytes(&self) -> &[u8]
-        ensures { result.now ≡ mem_sink_bytes self.now }
+        ensures bytes { result.now ≡ mem_sink_bytes self.now }
     {
         self.room.bytes.as_slice()
-    }
-
-    fn fault(&mut self) -> Fault
-        ensures raised { self.new ≡ record self.old { faults = next_count self.old.faults } }
-        ensures later { self.old.faults ≤ self.new.faults }
-    {
-        self.faults = self.faults.saturating_add(1);
-        Fault
     }
 }
 
@@ -70,11 +63,11 @@ impl Sink for MemSink {
         ensures script { failing_writes self.new ≡ failing_writes self.old }
     {
         if self.script.next_fails() {
-            return Err(self.fault());
+            return Err(self.faults.next());
         }
         let count = self.room.append(piece);
         if count == 0 && !piece.is_empty() {
-            Err(self.fault())
+            Err(self.faults.next())
         } else {
             Ok(count)
         }

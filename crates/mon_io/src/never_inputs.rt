@@ -35,7 +35,8 @@ impl Inputs for NeverInputs {
     ghost picks = { PickedAny };
 
     fn pick(&mut self, name: &str) -> Result<(), Fault>
-        ensures picked { OnOk result ((never_inputs_state self.new).rest ≡ (never_inputs_state self.old).contents name.now) }
+        ensures picked { OnOk result
+            ((never_inputs_state self.new).rest ≡ (never_inputs_state self.old).contents name.now) }
         ensures kept { OnErr result ((never_inputs_state self.new).rest ≡ (never_inputs_state self.old).rest) }
         ensures told { is_some (never_inputs_state self.new).rest ≡ is_some (never_inputs_state self.old).rest }
         ensures stays { (never_inputs_state self.new).contents ≡ (never_inputs_state self.old).contents }

@@ -1,9 +1,10 @@
 //! A sink in memory that fails only where it is full.
 ghost use Rattle.std.specs.Prelude.{◌≡◌, ◌≤◌, ◌&&◌, ◌==◌, ◌+◌, [], IfOk, OnErr, is_err, nat_lt, length, min};
-ghost use Rattle.mon_io.specs.Faults.{HasCause, CountsFailure, next_count};
+ghost use Rattle.mon_io.specs.Faults.{HasCause, CountsFailure};
 ghost use Rattle.mon_io.specs.Sink.{Writes, KeepsRoom};
 ghost use Rattle.mon_io.specs.NeverSink.{never_sink_state, never_sink_bytes, never_sink_room};
 
+use crate::fault_count::FaultCount;
 use crate::room::Room;
 use crate::{Fault, Memory, Sink};
 use std::alloc::Global;
@@ -13,7 +14,7 @@ use std::alloc::Global;
 #[derive(Drop)]
 pub struct NeverSink {
     room: Room,
-    faults: u64,
+    faults: FaultCount,
 }
 
 impl NeverSink {
@@ -25,30 +26,22 @@ impl NeverSink {
     {
         Ok(NeverSink {
             room: Room::new(alloc, room)?,
-            faults: 0,
+            faults: FaultCount::new(),
         })
     }
 
     /// The bytes written. It takes no memory.
     pub fn bytes(&self) -> &[u8]
-        ensures { result.now ≡ never_sink_bytes self.now }
+        ensures bytes { result.now ≡ never_sink_bytes self.now }
     {
         self.room.bytes.as_slice()
     }
 
     /// How many more bytes fit.
     pub fn room_left(&self) -> usize
-        ensures { result ≡ never_sink_room self.now }
+        ensures room { result ≡ never_sink_room self.now }
     {
         self.room.free()
-    }
-
-    fn fault(&mut self) -> Fault
-        ensures raised { self.new ≡ record self.old { faults = next_count self.old.faults } }
-        ensures later { self.old.faults ≤ self.new.faults }
-    {
-        self.faults = self.faults.saturating_add(1);
-        Fault
     }
 }
 
@@ -59,7 +52,8 @@ impl Sink for NeverSink {
 
     /// It takes no memory, and appends as much of the piece as fits.
     fn write(&mut self, piece: &[u8]) -> Result<usize, Fault>
-        ensures bytes { Writes (never_sink_state self.old).written (never_sink_state self.new).written result piece.now }
+        ensures bytes { Writes (never_sink_state self.old).written (never_sink_state self.new).written
+            result piece.now }
         ensures sure { KeepsRoom (never_sink_room self.old) (never_sink_room self.new) result }
         ensures cause { HasCause (never_sink_state self.old).faults (never_sink_state self.new).faults result }
         // Exactly a nonempty piece fails where no room is left.
@@ -71,7 +65,7 @@ impl Sink for NeverSink {
     {
         let count = self.room.append(piece);
         if count == 0 && !piece.is_empty() {
-            Err(self.fault())
+            Err(self.faults.next())
         } else {
             Ok(count)
         }

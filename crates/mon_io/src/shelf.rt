@@ -2,6 +2,8 @@
 ghost use Rattle.std.specs.Prelude.{◌≡◌, ◌≤◌, [], Some, None, MatchBool, IfSome, length, min, take, drop, option_map};
 ghost use Rattle.mon_io.specs.Files.{contents_of, contents_at};
 
+use crate::front::copy_front;
+
 /// Files, the place of the picked one, and how much of it was read. Nothing is picked past the end.
 #[derive(Drop)]
 pub(crate) struct Shelf {
@@ -86,14 +88,4 @@ fn rest_of(files: &[(String, Vec<u8>)], place: usize, at: usize) -> &[u8]
         Some(file) if at < file.1.len() => &file.1[at..],
         Some(_) => &[],
     }
-}
-
-// Copies the front of `rest` into the front of `buf`, as much as there is or fits.
-fn copy_front(rest: &[u8], buf: &mut [u8]) -> usize
-    ensures count { result ≡ min (length rest.now) (length buf.new) }
-    ensures copied { take result buf.new ≡ take result rest.now }
-{
-    let count = rest.len().min(buf.len());
-    buf[..count].copy_from_slice(&rest[..count]);
-    count
 }

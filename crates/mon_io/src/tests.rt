@@ -4,9 +4,11 @@ use crate::{
     Sink, read_all, write_all,
 };
 use std::alloc::{AllocError, Global};
+use std::io::Write;
+use std::path::PathBuf;
 use std::process::Abort;
 use std::test::Fail;
-use std::{env, fs, process};
+use std::{env, fs, io, process};
 
 // The numbers from 0 on, modulo 251, as bytes.
 fn numbered(alloc: Global, count: u32) -> Result<Vec<u8>, AllocError> {
@@ -103,6 +105,32 @@ fn a_text_of_the_room_meets_no_fault(rt: HostRuntime) -> Result<(), Fail> {
     Ok(())
 }
 
+// A writer that takes at most two bytes at once.
+#[derive(Drop)]
+struct Narrow {
+    bytes: Vec<u8>,
+}
+
+impl Write for Narrow {
+    fn write(&mut self, buf: &[u8]) -> io::Result<usize> {
+        let count = buf.len().min(2);
+        self.bytes.extend_from_slice(&buf[..count])?;
+        Ok(count)
+    }
+
+    fn flush(&mut self) -> io::Result<()> {
+        Ok(())
+    }
+}
+
+#[test]
+fn a_writer_gets_each_byte_once(rt: HostRuntime) {
+    let bytes = Vec::new(rt.alloc());
+    let mut sink = HostSink::over(Narrow { bytes });
+    write_each(&rt, &mut sink, &[("abcde", Ok(())), ("fg", Ok(()))]);
+    assert_eq!(rt; sink.writer.bytes.as_slice(), b"abcdefg".as_slice());
+}
+
 #[test]
 fn standard_output_takes_a_text(rt: HostRuntime) {
     let mut sink = HostSink::new(&rt);
@@ -143,16 +171,48 @@ fn reads_back(rt: &HostRuntime, name: &str, told: &[u8]) -> Result<bool, ReadSto
     Ok(pieces.as_slice() == told && whole.as_slice() == told && is_too_long)
 }
 
+// A new file with these bytes.
+fn file_of(rt: &HostRuntime, name: &str, bytes: &[u8]) -> Result<PathBuf, Fail> {
+    let alloc = rt.alloc();
+    let name = format!(in alloc; "mon-io-{name}-{}", process::id(rt.process()))?;
+    let path = env::temp_dir(rt)?.join(alloc, name.as_str())?;
+    fs::write(rt, path.as_str(), bytes)?;
+    Ok(path)
+}
+
 #[test]
 fn a_file_is_read_whole(rt: HostRuntime) -> Result<(), Fail> {
-    let alloc = rt.alloc();
-    let name = format!(in alloc; "mon-io-test-{}", process::id(rt.process()))?;
-    let path = env::temp_dir(&rt)?.join(alloc, name.as_str())?;
-    let told = numbered(alloc, 200_000)?;
-    fs::write(&rt, path.as_str(), told.as_slice())?;
+    let told = numbered(rt.alloc(), 200_000)?;
+    let path = file_of(&rt, "whole", told.as_slice())?;
     let same = reads_back(&rt, path.as_str(), told.as_slice());
     fs::remove_file(&rt, path.as_str())?;
     assert_eq!(rt; same, Ok(true));
+    Ok(())
+}
+
+// What a pick answers, and the front of what a read of two bytes gives then.
+fn gives<I: Inputs>(inputs: &mut I, name: &str, picked: Result<(), Fault>, front: &[u8]) -> bool {
+    let mut buf = [0; 2];
+    let picks = inputs.pick(name) == picked;
+    match inputs.read(&mut buf) {
+        Ok(count) => picks && &buf[..count] == front,
+        Err(Fault) => false,
+    }
+}
+
+// A standard input of no bytes is what tests have.
+#[test]
+fn a_file_takes_the_place_of_the_former(rt: HostRuntime) -> Result<(), Fail> {
+    let first = file_of(&rt, "first", b"abcdef")?;
+    let second = file_of(&rt, "second", b"vwxyz")?;
+    let mut inputs = HostInputs::new(&rt);
+    let half = gives(&mut inputs, first.as_str(), Ok(()), b"ab");
+    let failed = gives(&mut inputs, "a name that is not there", Err(Fault), b"cd");
+    let other = gives(&mut inputs, second.as_str(), Ok(()), b"vw");
+    let standard = gives(&mut inputs, "-", Ok(()), b"");
+    fs::remove_file(&rt, first.as_str())?;
+    fs::remove_file(&rt, second.as_str())?;
+    assert_eq!(rt; [half, failed, other, standard], [true; 4]);
     Ok(())
 }
 

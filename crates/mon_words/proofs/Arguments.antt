@@ -22,7 +22,8 @@ use Rattle.mon_words.specs.declared.command.Command.TheVariants.{Total, Central,
 use Rattle.mon_words.specs.Needs.{IsFresh, IsStrict, Needs, NeedsEach}
 
 -- an argument that is plain lifts no need
-pub strict_with : (old new : Command) (a : Arg) → AddsArg old a new → IsPlainArg a → a.global ≡ false → IsStrict old → IsStrict new
+pub strict_with : (old new : Command) (a : Arg) → AddsArg old a new → IsPlainArg a → a.global ≡ false → IsStrict old
+    → IsStrict new
 strict_with old new a added plain local strict = record {
   plain = added_plain old new a added strict.plain plain;
   local = added.globals ∙ (ap (λ b. b || a.global) strict.local ∙ ap (λ b. false || b) local);
@@ -30,10 +31,12 @@ strict_with old new a added plain local strict = record {
 }
 
 -- the places of a list, and the one behind them
-left : (xs : List Arg) (y : Arg) (k : ℕ) (d : Arg) → k < length xs → slice_index_or (xs ++ y ∷ []) k d ≡ slice_index_or xs k d
+left : (xs : List Arg) (y : Arg) (k : ℕ) (d : Arg) → k < length xs
+    → slice_index_or (xs ++ y ∷ []) k d ≡ slice_index_or xs k d
 left xs y k d lt = get_or_append_left xs (y ∷ []) d k lt
 
-right : (xs : List Arg) (y : Arg) (k : ℕ) (d : Arg) → length xs ≤ k → k < length (xs ++ y ∷ []) → (k ≡ length xs) × (slice_index_or (xs ++ y ∷ []) k d ≡ y)
+right : (xs : List Arg) (y : Arg) (k : ℕ) (d : Arg) → length xs ≤ k → k < length (xs ++ y ∷ [])
+    → (k ≡ length xs) × (slice_index_or (xs ++ y ∷ []) k d ≡ y)
 right xs y k d from lt =
     let sum : length (xs ++ y ∷ []) ≡ length xs + 1 = length-append xs (y ∷ []) in
     let is : k ≡ length xs = omega arith in
@@ -45,37 +48,45 @@ still_taken a b rules taken =
     (rules.required ∙ taken.0, rules.action Set taken.1, rules.val_delim ∙ taken.2, rules.least taken.1 taken.3)
 
 -- an argument of another id leaves a need
-pub needs_with : (old new : Command) (a : Arg) (name : List ℕ) → AddsArg old a new → bytes_eq a.id.now name ≡ false → Needs name old → Needs name new
+pub needs_with : (old new : Command) (a : Arg) (name : List ℕ) → AddsArg old a new → bytes_eq a.id.now name ≡ false
+    → Needs name old → Needs name new
 needs_with old new a name added other needs =
     let old_args = args_of old in
     let longer : length (old_args ++ added.arg ∷ []) ≡ length old_args + 1 = length-append old_args (added.arg ∷ []) in
     let here : (d : Arg) → slice_index_or (args_of new) needs.place d ≡ slice_index_or old_args needs.place d =
-    λ d. ap (λ (l : List Arg). slice_index_or l needs.place d) added.args ∙ left old_args added.arg needs.place d needs.within in
+    λ d. ap (λ (l : List Arg). slice_index_or l needs.place d) added.args
+    ∙ left old_args added.arg needs.place d needs.within in
     record {
       place = needs.place;
-      within = subst (λ (l : List Arg). needs.place < length l) (sym added.args) (let within = needs.within in omega arith);
+      within =
+          subst (λ (l : List Arg). needs.place < length l) (sym added.args) (let within = needs.within in omega arith);
       named = λ d. ap (λ (x : Arg). x.id.now) (here d) ∙ needs.named d;
       taken = λ d. subst TakesValue (sym (here d)) (needs.taken d);
       only = λ k d lt same.
-          let in_both : k < length (old_args ++ added.arg ∷ []) = subst (λ (l : List Arg). k < length l) added.args lt in
+          let in_both : k < length (old_args ++ added.arg ∷ []) = subst
+          (λ (l : List Arg). k < length l) added.args lt in
           let found : bytes_eq (slice_index_or (old_args ++ added.arg ∷ []) k d).id.now name ≡ true =
           subst (λ (l : List Arg). bytes_eq (slice_index_or l k d).id.now name ≡ true) added.args same in
           elim (cases_lt k (length old_args)) [
-            | inl under ↦ needs.only k d under (subst (λ (x : Arg). bytes_eq x.id.now name ≡ true) (left old_args added.arg k d under) found)
+            | inl under ↦ needs.only k d under
+                (subst (λ (x : Arg). bytes_eq x.id.now name ≡ true) (left old_args added.arg k d under) found)
             | inr over ↦
                 let at_end = right old_args added.arg k d over in_both in
-                let bad : bytes_eq a.id.now name ≡ true = subst (λ (x : Bor (List ℕ)). bytes_eq x.now name ≡ true) added.rules.id
+                let bad : bytes_eq a.id.now name ≡ true = subst
+                (λ (x : Bor (List ℕ)). bytes_eq x.now name ≡ true) added.rules.id
                 (subst (λ (x : Arg). bytes_eq x.id.now name ≡ true) (at_end.1) found) in
                 absurd (true≢false (sym bad ∙ other))
           ];
     }
 
 -- and leaves an id free
-pub fresh_with : (old new : Command) (a : Arg) (name : List ℕ) → AddsArg old a new → bytes_eq a.id.now name ≡ false → IsFresh name (args_of old) → IsFresh name (args_of new)
+pub fresh_with : (old new : Command) (a : Arg) (name : List ℕ) → AddsArg old a new → bytes_eq a.id.now name ≡ false
+    → IsFresh name (args_of old) → IsFresh name (args_of new)
 fresh_with old new a name added other fresh k d lt =
     let old_args = args_of old in
     let in_both : k < length (old_args ++ added.arg ∷ []) = subst (λ (l : List Arg). k < length l) added.args lt in
-    let free : bytes_eq (slice_index_or (old_args ++ added.arg ∷ []) k d).id.now name ≡ false = elim (cases_lt k (length old_args)) [
+    let free : bytes_eq (slice_index_or (old_args ++ added.arg ∷ []) k d).id.now name ≡ false = elim
+    (cases_lt k (length old_args)) [
       | inl under ↦ ap (λ (x : Arg). bytes_eq x.id.now name) (left old_args added.arg k d under) ∙ fresh k d under
       | inr over ↦
           ap (λ (x : Arg). bytes_eq x.id.now name) (right old_args added.arg k d over in_both).1
@@ -84,19 +95,22 @@ fresh_with old new a name added other fresh k d lt =
     ap (λ (l : List Arg). bytes_eq (slice_index_or l k d).id.now name) added.args ∙ free
 
 -- a new argument is needed
-pub needs_new : (old new : Command) (a : Arg) → AddsArg old a new → IsFresh a.id.now (args_of old) → TakesValue a → Needs a.id.now new
+pub needs_new : (old new : Command) (a : Arg) → AddsArg old a new → IsFresh a.id.now (args_of old) → TakesValue a
+    → Needs a.id.now new
 needs_new old new a added fresh taken =
     let old_args = args_of old in
     let longer : length (old_args ++ added.arg ∷ []) ≡ length old_args + 1 = length-append old_args (added.arg ∷ []) in
     let here : (d : Arg) → slice_index_or (args_of new) (length old_args) d ≡ added.arg =
-    λ d. ap (λ (l : List Arg). slice_index_or l (length old_args) d) added.args ∙ get_or-append_seam old_args added.arg [] d in
+    λ d. ap (λ (l : List Arg). slice_index_or l (length old_args) d) added.args
+    ∙ get_or-append_seam old_args added.arg [] d in
     record {
       place = length old_args;
       within = subst (λ (l : List Arg). length old_args < length l) (sym added.args) (omega arith);
       named = λ d. ap (λ (x : Arg). x.id.now) (here d) ∙ ap (λ (x : Bor (List ℕ)). x.now) added.rules.id;
       taken = λ d. subst TakesValue (sym (here d)) (still_taken a added.arg added.rules taken);
       only = λ k d lt same.
-          let in_both : k < length (old_args ++ added.arg ∷ []) = subst (λ (l : List Arg). k < length l) added.args lt in
+          let in_both : k < length (old_args ++ added.arg ∷ []) = subst
+          (λ (l : List Arg). k < length l) added.args lt in
           elim (cases_lt k (length old_args)) [
             | inl under ↦
                 let found : bytes_eq (slice_index_or (old_args ++ added.arg ∷ []) k d).id.now a.id.now ≡ true =
@@ -115,32 +129,48 @@ some_of (x ∷ xs) k lt = x
 
 -- what is needed, with an id that is not of clap's own, has a value where the words are taken
 name_is_given : (id : List ℕ) (app : Command) (m : ArgMatches) → IsStrict app → Needs id app → IsParsedFrom app m
-    → (id ≡ [] → ⊥) → (id ≡ codes "help" → ⊥) → (id ≡ codes "version" → ⊥) → is_some (first_of id (rows_of (found_of m))) ≡ true
+    → (id ≡ [] → ⊥) → (id ≡ codes "help" → ⊥) → (id ≡ codes "version" → ⊥)
+    → is_some (first_of id (rows_of (found_of m))) ≡ true
 name_is_given id app m strict needs parsed named help version =
     let d = some_of (args_of app) needs.place needs.within in
     let taken = needs.taken d in
     let is = needs.named d in
-    let has = required_has_value app m parsed strict.plain strict.local strict.alone needs.place d needs.within taken.0 taken.1 taken.2 taken.3
-    (λ k e lt same. needs.only k e lt (subst (λ (own : List ℕ). bytes_eq (slice_index_or (args_of app) k e).id.now own ≡ true) is same))
+    let has = required_has_value app m parsed strict.plain strict.local strict.alone
+    needs.place d needs.within taken.0 taken.1 taken.2 taken.3
+    (λ k e lt same. needs.only k e lt
+    (subst (λ (own : List ℕ). bytes_eq (slice_index_or (args_of app) k e).id.now own ≡ true) is same))
     (λ none. named (sym is ∙ none))
     (λ auto. elim auto [
       | inl h ↦ help (sym is ∙ h)
       | inr h ↦ version (sym is ∙ h)
     ]) in
-    ap is_some (sym (first_value-rows (found_of m) id)) ∙ subst (λ (own : List ℕ). is_some (first_value (found_of m) own) ≡ true) is has
+    ap is_some (sym (first_value-rows (found_of m) id))
+    ∙ subst (λ (own : List ℕ). is_some (first_value (found_of m) own) ≡ true) is has
 
 -- two texts that don't compare equal
 pub differs : (id text : List ℕ) → bytes_eq id text ≡ false → id ≡ text → ⊥
 differs id text other same = true≢false (sym ((bytes_eq-Decides id text).1 same) ∙ other)
 
 -- where the words are taken, each name is given
-pub names_are_given : (command : words.Command) (app : Command) (m : ArgMatches) → IsStrict app → NeedsEach (name_ids command) app → IsParsedFrom app m
+pub names_are_given : (command : words.Command) (app : Command) (m : ArgMatches) → IsStrict app
+    → NeedsEach (name_ids command) app → IsParsedFrom app m
     → IsNamed command (rows_of (found_of m))
-names_are_given Total app m strict needs parsed =
-    (name_is_given (codes "trace") app m strict needs.0 parsed (differs (codes "trace") [] refl) (differs (codes "trace") (codes "help") refl) (differs (codes "trace") (codes "version") refl), tt)
-names_are_given Central app m strict needs parsed =
-    (name_is_given (codes "trace") app m strict needs.0 parsed (differs (codes "trace") [] refl) (differs (codes "trace") (codes "help") refl) (differs (codes "trace") (codes "version") refl), tt)
+names_are_given Total app m strict needs parsed = (
+  name_is_given (codes "TRACE") app m strict needs.0 parsed (differs (codes "TRACE") [] refl)
+      (differs (codes "TRACE") (codes "help") refl) (differs (codes "TRACE") (codes "version") refl),
+  tt,
+)
+names_are_given Central app m strict needs parsed = (
+  name_is_given (codes "TRACE") app m strict needs.0 parsed (differs (codes "TRACE") [] refl)
+      (differs (codes "TRACE") (codes "help") refl) (differs (codes "TRACE") (codes "version") refl),
+  tt,
+)
 names_are_given Check app m strict needs parsed = (
-  name_is_given (codes "network") app m strict needs.0 parsed (differs (codes "network") [] refl) (differs (codes "network") (codes "help") refl) (differs (codes "network") (codes "version") refl),
-  (name_is_given (codes "tree") app m strict needs.1.0 parsed (differs (codes "tree") [] refl) (differs (codes "tree") (codes "help") refl) (differs (codes "tree") (codes "version") refl), tt),
+  name_is_given (codes "TOPOLOGY") app m strict needs.0 parsed (differs (codes "TOPOLOGY") [] refl)
+      (differs (codes "TOPOLOGY") (codes "help") refl) (differs (codes "TOPOLOGY") (codes "version") refl),
+  (
+    name_is_given (codes "TREE") app m strict needs.1.0 parsed (differs (codes "TREE") [] refl)
+        (differs (codes "TREE") (codes "help") refl) (differs (codes "TREE") (codes "version") refl),
+    tt,
+  ),
 )

@@ -23,7 +23,8 @@ is_known Total = refl
 is_known Central = refl
 is_known Check = refl
 
-pub taken : (command : Command) (words : List (List ℕ)) → fault_of (app_for command) words ≡ [] → is_taken command words ≡ true
+pub taken : (command : Command) (words : List (List ℕ)) → fault_of (app_for command) words ≡ []
+    → is_taken command words ≡ true
 unfolding is_taken
 taken command words none = ap (λ (faults : Kinds). length faults == 0) none
 
@@ -31,7 +32,8 @@ some_kind : (kind : ErrorKind) (faults : Kinds) → IsAmong kind faults → (len
 some_kind kind [] among = absurd among
 some_kind kind (fault ∷ faults) among = grind arith
 
-pub not_taken : (command : Command) (words : List (List ℕ)) (error : Error) → HasKind (fault_of (app_for command) words) error
+pub not_taken : (command : Command) (words : List (List ℕ)) (error : Error)
+    → HasKind (fault_of (app_for command) words) error
     → (kind_of error ≡ kinds.OutOfMemory → ⊥) → is_taken command words ≡ false
 unfolding is_taken
 not_taken command words error (inl memory) other = absurd (other memory)

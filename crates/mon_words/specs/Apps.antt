@@ -15,7 +15,8 @@ option_rule id = record (new_rule id) { long = Some id; action = Some Set }
 
 -- a command without a program's name before its words and without a flag of help
 abbrev pub bare_app : List ℕ → App
-bare_app name = let app = new_app name in record app { top = record app.top { no_binary_name = true; disable_help_flag = true } }
+bare_app name =
+    let app = new_app name in record app { top = record app.top { no_binary_name = true; disable_help_flag = true } }
 
 abbrev pub with_name : List ℕ → App → App
 with_name id app = with_rule app (name_rule id)
@@ -25,12 +26,13 @@ with_option id app = with_rule app (option_rule id)
 
 -- `total` takes the name of a trace alone
 unfoldable pub total_app : App
-total_app = with_name (codes "trace") (bare_app (codes "total"))
+total_app = with_name (codes "TRACE") (bare_app (codes "total"))
 
 -- the options of a sketch
 unfoldable pub with_sketch_options : App → App
 with_sketch_options app =
-    with_option (codes "heap") (with_option (codes "width") (with_option (codes "rows") (with_option (codes "levels") (with_option (codes "seed") app))))
+    with_option (codes "weight") (with_option (codes "heap") (with_option (codes "width")
+    (with_option (codes "rows") (with_option (codes "levels") (with_option (codes "seed") app)))))
 
 -- the options of epochs, of heavy keys and of a topology
 unfoldable pub with_trace_options : App → App
@@ -38,17 +40,17 @@ with_trace_options app = with_option (codes "topology") (with_option (codes "hea
 
 -- `central` takes the name of a trace, and options
 unfoldable pub central_app : App
-central_app = with_trace_options (with_sketch_options (with_name (codes "trace") (bare_app (codes "central"))))
+central_app = with_trace_options (with_sketch_options (with_name (codes "TRACE") (bare_app (codes "central"))))
 
--- `check` takes the names of a topology and of a tree; `topology` is the id of an option
+-- `check` takes the names of a topology and of a tree
 unfoldable pub check_app : App
-check_app = with_name (codes "tree") (with_name (codes "network") (bare_app (codes "check")))
+check_app = with_name (codes "TREE") (with_name (codes "TOPOLOGY") (bare_app (codes "check")))
 
 -- the ids of the names that a command takes, in order
 abbrev pub name_ids : Command → List (List ℕ)
-name_ids Total = codes "trace" ∷ []
-name_ids Central = codes "trace" ∷ []
-name_ids Check = codes "network" ∷ codes "tree" ∷ []
+name_ids Total = codes "TRACE" ∷ []
+name_ids Central = codes "TRACE" ∷ []
+name_ids Check = codes "TOPOLOGY" ∷ codes "TREE" ∷ []
 
 abbrev pub app_for : Command → App
 app_for Total = total_app

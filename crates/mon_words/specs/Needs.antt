@@ -23,7 +23,8 @@ pub record Needs (id : List ℕ) (app : Command) : Type 0 where
   pub within : place < length (args_of app)
   pub named : (d : Arg) → (slice_index_or (args_of app) place d).id.now ≡ id
   pub taken : (d : Arg) → TakesValue (slice_index_or (args_of app) place d)
-  pub only : (k : ℕ) (d : Arg) → k < length (args_of app) → bytes_eq (slice_index_or (args_of app) k d).id.now id ≡ true → k ≡ place
+  pub only : (k : ℕ) (d : Arg) → k < length (args_of app)
+      → bytes_eq (slice_index_or (args_of app) k d).id.now id ≡ true → k ≡ place
 
 -- each of these ids is needed
 abbrev pub NeedsEach : List (List ℕ) → Command → Type 0

@@ -1,5 +1,5 @@
--- The options with a number, and the numbers that they take.
-use Rattle.std.specs.Prelude.{ℕ, ◌^◌, ◌&&◌, ◌++◌, Bool, nat_lt, nat_le, List, [], ◌∷◌, length, codes, Option, Some, None, if◌then◌else◌}
+-- The options with a value, and the values that they take.
+use Rattle.std.specs.Prelude.{ℕ, ◌^◌, ◌&&◌, ◌||◌, ◌++◌, Bool, true, false, bytes_eq, is_some, nat_lt, nat_le, List, [], ◌∷◌, length, codes, Option, Some, None, if◌then◌else◌}
 use Rattle.std.specs.List.{list_all}
 use Rattle.std.specs.Char.{is_ascii_digit}
 use Rattle.std.specs.Str.Parse.{digits_value}
@@ -7,11 +7,11 @@ use Rattle.hash_family.specs.Limits.{is_rows, is_width}
 use Rattle.mon_words.specs.declared.command.Command.{Command}
 use Rattle.mon_words.specs.declared.command.Command.TheVariants.{Total, Central, Check}
 use Rattle.mon_words.specs.declared.opt.Opt.{Opt}
-use Rattle.mon_words.specs.declared.opt.Opt.TheVariants.{Seed, Levels, Rows, Width, Heap, Epoch, Heavy}
+use Rattle.mon_words.specs.declared.opt.Opt.TheVariants.{Seed, Levels, Rows, Width, Heap, Weight, Epoch, Heavy}
 
 -- the options in the order of the table
 abbrev pub options : List Opt
-options = Seed ∷ Levels ∷ Rows ∷ Width ∷ Heap ∷ Epoch ∷ Heavy ∷ []
+options = Seed ∷ Levels ∷ Rows ∷ Width ∷ Heap ∷ Weight ∷ Epoch ∷ Heavy ∷ []
 
 -- an option's name without the dashes
 abbrev pub id_of : Opt → List ℕ
@@ -20,6 +20,7 @@ id_of Levels = codes "levels"
 id_of Rows = codes "rows"
 id_of Width = codes "width"
 id_of Heap = codes "heap"
+id_of Weight = codes "weight"
 id_of Epoch = codes "epoch"
 id_of Heavy = codes "heavy"
 
@@ -39,13 +40,14 @@ default_heap Total = 64
 default_heap Central = 0
 default_heap Check = 64
 
--- the numbers that an option of a command takes
+-- the numbers that an option of a command takes; a weight is a word
 abbrev pub is_in_range : Command → Opt → ℕ → Bool
 is_in_range command Seed number = nat_lt number (2 ^ 64)
 is_in_range command Levels number = nat_le number 16
 is_in_range command Rows number = is_rows number
 is_in_range command Width number = is_width number
 is_in_range command Heap number = nat_le (least_heap command) number && nat_le number 1024
+is_in_range command Weight number = false
 is_in_range command Epoch number = nat_le 1 number && nat_lt number (2 ^ 32)
 is_in_range command Heavy number = nat_le 1 number && nat_le number 1000
 
@@ -55,4 +57,25 @@ is_numeral value = nat_le 1 (length value) && nat_le (length value) 20 && list_a
 
 -- the number that a value's digits spell, of the numbers that are taken
 abbrev pub number_if : (ℕ → Bool) → List ℕ → Option ℕ
-number_if is_taken value = if is_numeral value && is_taken (digits_value 10 value) then Some (digits_value 10 value) else None
+number_if is_taken value =
+    if is_numeral value && is_taken (digits_value 10 value) then Some (digits_value 10 value) else None
+
+-- what a packet weighs: 1, or its original length in bytes
+abbrev pub is_weight : List ℕ → Bool
+is_weight value = bytes_eq value (codes "packets") || bytes_eq value (codes "bytes")
+
+-- whether the value of an option is a number
+abbrev pub has_number : Opt → Bool
+has_number Seed = true
+has_number Levels = true
+has_number Rows = true
+has_number Width = true
+has_number Heap = true
+has_number Weight = false
+has_number Epoch = true
+has_number Heavy = true
+
+-- an option of a command takes this value
+abbrev pub takes : Command → Opt → List ℕ → Bool
+takes command option value =
+    if has_number option then is_some (number_if (is_in_range command option) value) else is_weight value

@@ -1,22 +1,22 @@
 -- What the words of a call ask for.
-use Rattle.std.specs.Prelude.{◌≡◌, ◌≤◌, ◌==◌, ℕ, List, [], ◌∷◌, length, find, bytes_eq, codes, Bool, true, false, Option, Some, None, IfSome, is_none, is_some, Result, Ok, Err, IsTrue, ⊤, if◌then◌else◌}
+use Rattle.std.specs.Prelude.{◌≡◌, ◌≤◌, ◌==◌, ℕ, List, [], ◌∷◌, length, find, bytes_eq, codes, Bool, true, false, Option, Some, None, IfSome, not, is_some, Result, Ok, Err, IsTrue, ⊤, if◌then◌else◌}
 use Rattle.std.specs.List.{AllByRecursion, flat_map}
 use Rattle.std.specs.Option.{option_map, option_map_or}
 use Rattle.std.specs.Str.Parse.{digits_value}
 use Rattle.clap.specs.Words.{Row, fault_of, first_of, matches_of}
 use Rattle.hash_family.specs.Limits.{is_rows, is_width}
 use Rattle.mon_words.specs.Apps.{app_for, name_ids}
-use Rattle.mon_words.specs.Options.{default_heap, id_of, is_in_range, number_if, options}
+use Rattle.mon_words.specs.Options.{default_heap, id_of, options, takes}
 use Rattle.mon_words.specs.declared.command.Command.{Command}
 use Rattle.mon_words.specs.declared.command.Command.TheVariants.{Total, Central, Check}
 use Rattle.mon_words.specs.declared.opt.Opt.{Opt}
-use Rattle.mon_words.specs.declared.opt.Opt.TheVariants.{Seed, Levels, Rows, Width, Heap, Epoch, Heavy}
+use Rattle.mon_words.specs.declared.opt.Opt.TheVariants.{Seed, Levels, Rows, Width, Heap, Weight, Epoch, Heavy}
 use Rattle.mon_words.specs.declared.usage_fault.UsageFault.{UsageFault}
 use Rattle.mon_words.specs.declared.usage_fault.UsageFault.TheVariants.{NoCommand, UnknownCommand, Refused, Value}
 use Rattle.mon_words.specs.declared.words_fault.WordsFault.{WordsFault}
 use Rattle.mon_words.specs.declared.words_fault.WordsFault.TheVariants.{Usage, Memory}
 
--- a command with its names in order, a topology where one is named, and the numbers of its options
+-- a command with its names in order, a topology where one is named, and the values of its options
 pub record Values : Type 0 where
   pub command : Command
   pub names : List (List ℕ)
@@ -26,6 +26,7 @@ pub record Values : Type 0 where
   pub rows : ℕ
   pub width : ℕ
   pub heap : ℕ
+  pub bytes : Bool
   pub epoch : Option ℕ
   pub heavy : ℕ
 
@@ -61,6 +62,7 @@ pub record HasDefaults (values : Values) : Type 0 where
   pub rows_are : values.rows ≡ 5
   pub width_is : values.width ≡ 1024
   pub heap_is : values.heap ≡ default_heap values.command
+  pub no_bytes : values.bytes ≡ false
   pub no_epoch : values.epoch ≡ None
   pub heavy_is : values.heavy ≡ 10
 
@@ -89,10 +91,10 @@ pub record IsBare (rows : List Row) : Type 0 where
 abbrev pub IsNamed : Command → List Row → Type 0
 IsNamed command rows = AllByRecursion (λ id. is_some (first_of id rows) ≡ true) (name_ids command)
 
--- an option is given a value that is not a number in its range
+-- an option is given a value that it doesn't take
 abbrev pub is_refused : Command → List Row → Opt → Bool
 is_refused command rows option =
-    option_map_or (λ value. is_none (number_if (is_in_range command option) value)) (first_of (id_of option) rows) false
+    option_map_or (λ value. not (takes command option value)) (first_of (id_of option) rows) false
 
 -- the first option in the order of the table with such a value
 abbrev pub first_refused : Command → List Row → Option Opt
@@ -101,6 +103,10 @@ first_refused command rows = find (is_refused command rows) options
 -- the number of an option that is given one in its range, and else this one
 abbrev pub number_or : List Row → Opt → ℕ → ℕ
 number_or rows option default = option_map_or (digits_value 10) (first_of (id_of option) rows) default
+
+-- whether packets weigh their bytes
+abbrev pub weighs_bytes : List Row → Bool
+weighs_bytes rows = option_map_or (λ value. bytes_eq value (codes "bytes")) (first_of (id_of Weight) rows) false
 
 -- the name with this id, where it is given
 abbrev pub name_in : List Row → List ℕ → List (List ℕ)
@@ -121,13 +127,15 @@ values_in command rows = record {
   rows = number_or rows Rows 5;
   width = number_or rows Width 1024;
   heap = number_or rows Heap (default_heap command);
+  bytes = weighs_bytes rows;
   epoch = option_map (digits_value 10) (first_of (id_of Epoch) rows);
   heavy = number_or rows Heavy 10;
 }
 
 -- what is read of a command's words, unless the value of an option is refused
 abbrev pub read_of : Command → List Row → Result Values UsageFault
-read_of command rows = option_map_or (λ option. Err (Value option)) (first_refused command rows) (Ok (values_in command rows))
+read_of command rows =
+    option_map_or (λ option. Err (Value option)) (first_refused command rows) (Ok (values_in command rows))
 
 -- the words behind a command
 abbrev pub rest_of : Command → List (List ℕ) → Result Values UsageFault

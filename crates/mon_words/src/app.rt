@@ -13,9 +13,9 @@ use std::alloc::{AllocError, Global};
 pub(crate) fn total_app<'a>(alloc: Global) -> Result<Command<'a>, AllocError>
     ensures app { IfOk result (λ app. app_of app ≡ total_app) }
     ensures strict { IfOk result IsStrict }
-    ensures needs { IfOk result (Needs (codes "trace")) }
+    ensures needs { IfOk result (Needs (codes "TRACE")) }
 {
-    with_name(alloc, bare_app(alloc, "total"), "trace")
+    with_name(alloc, bare_app(alloc, "total"), "TRACE")
 }
 
 /// The words behind `central`.
@@ -23,9 +23,9 @@ pub(crate) fn total_app<'a>(alloc: Global) -> Result<Command<'a>, AllocError>
 pub(crate) fn central_app<'a>(alloc: Global) -> Result<Command<'a>, AllocError>
     ensures app { IfOk result (λ app. app_of app ≡ central_app) }
     ensures strict { IfOk result IsStrict }
-    ensures needs { IfOk result (Needs (codes "trace")) }
+    ensures needs { IfOk result (Needs (codes "TRACE")) }
 {
-    let app = with_name(alloc, bare_app(alloc, "central"), "trace")?;
+    let app = with_name(alloc, bare_app(alloc, "central"), "TRACE")?;
     let app = with_sketch_options(alloc, app)?;
     let app = with_trace_options(alloc, app)?;
     Ok(app)
@@ -36,27 +36,28 @@ pub(crate) fn central_app<'a>(alloc: Global) -> Result<Command<'a>, AllocError>
 pub(crate) fn check_app<'a>(alloc: Global) -> Result<Command<'a>, AllocError>
     ensures app { IfOk result (λ app. app_of app ≡ check_app) }
     ensures strict { IfOk result IsStrict }
-    ensures network { IfOk result (Needs (codes "network")) }
-    ensures tree { IfOk result (Needs (codes "tree")) }
+    ensures topology { IfOk result (Needs (codes "TOPOLOGY")) }
+    ensures tree { IfOk result (Needs (codes "TREE")) }
 {
-    let app = with_name(alloc, bare_app(alloc, "check"), "network")?;
-    with_name(alloc, app, "tree")
+    let app = with_name(alloc, bare_app(alloc, "check"), "TOPOLOGY")?;
+    with_name(alloc, app, "TREE")
 }
 
 // With the options of a sketch.
 #[tactic(auto, unfolding(crate::specs::Apps::with_sketch_options))]
 fn with_sketch_options<'a>(alloc: Global, app: Command<'a>) -> Result<Command<'a>, AllocError>
     requires strict { IsStrict app }
-    requires needs { Needs (codes "trace") app }
+    requires needs { Needs (codes "TRACE") app }
     ensures app { IfOk result (λ more. app_of more ≡ with_sketch_options (app_of app.entry)) }
     ensures strict { IfOk result IsStrict }
-    ensures needs { IfOk result (Needs (codes "trace")) }
+    ensures needs { IfOk result (Needs (codes "TRACE")) }
 {
     let app = with_option(alloc, app, "seed")?;
     let app = with_option(alloc, app, "levels")?;
     let app = with_option(alloc, app, "rows")?;
     let app = with_option(alloc, app, "width")?;
     let app = with_option(alloc, app, "heap")?;
+    let app = with_option(alloc, app, "weight")?;
     Ok(app)
 }
 
@@ -64,10 +65,10 @@ fn with_sketch_options<'a>(alloc: Global, app: Command<'a>) -> Result<Command<'a
 #[tactic(auto, unfolding(crate::specs::Apps::with_trace_options))]
 fn with_trace_options<'a>(alloc: Global, app: Command<'a>) -> Result<Command<'a>, AllocError>
     requires strict { IsStrict app }
-    requires needs { Needs (codes "trace") app }
+    requires needs { Needs (codes "TRACE") app }
     ensures app { IfOk result (λ more. app_of more ≡ with_trace_options (app_of app.entry)) }
     ensures strict { IfOk result IsStrict }
-    ensures needs { IfOk result (Needs (codes "trace")) }
+    ensures needs { IfOk result (Needs (codes "TRACE")) }
 {
     let app = with_option(alloc, app, "epoch")?;
     let app = with_option(alloc, app, "heavy")?;
@@ -93,7 +94,8 @@ fn with_name<'a>(alloc: Global, app: Command<'a>, id: &'a str) -> Result<Command
     ensures app { IfOk result (λ more. app_of more ≡ with_name id.entry.now (app_of app.entry)) }
     ensures strict { IfOk result IsStrict }
     ensures needs { IfOk result (Needs id.entry.now) }
-    ensures others { (name : List ℕ) → bytes_eq id.entry.now name ≡ false → Needs name app.entry → IfOk result (Needs name) }
+    ensures others { (name : List ℕ) → bytes_eq id.entry.now name ≡ false → Needs name app.entry
+        → IfOk result (Needs name) }
     ensures free { (name : List ℕ) → bytes_eq id.entry.now name ≡ false → IsFresh name (args_of app.entry)
         → IfOk result (λ more. IsFresh name (args_of more)) }
 {
@@ -105,7 +107,8 @@ fn with_option<'a>(alloc: Global, app: Command<'a>, id: &'a str) -> Result<Comma
     requires strict { IsStrict app }
     ensures app { IfOk result (λ more. app_of more ≡ with_option id.entry.now (app_of app.entry)) }
     ensures strict { IfOk result IsStrict }
-    ensures needs { (name : List ℕ) → bytes_eq id.entry.now name ≡ false → Needs name app.entry → IfOk result (Needs name) }
+    ensures needs { (name : List ℕ) → bytes_eq id.entry.now name ≡ false → Needs name app.entry
+        → IfOk result (Needs name) }
 {
     app.arg(option_arg(alloc, id))
 }

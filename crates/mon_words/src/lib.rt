@@ -4,11 +4,11 @@
 //! - `command`: `Command`, which the first word names
 //! - `app`: the words behind each command, as a definition of the crate clap
 //! - `matches`: what clap reads in them, and the texts and numbers there
-//! - `opt`: `Opt`, the options with a number; `numeral`: the number that a value spells
+//! - `opt`: `Opt`, the options with a value; `numeral`: the number that a value spells
 //! - `usage_fault`, `words_fault`: why words are refused
 //!
-//! `specs/Values.antt` says what words ask for: exactly the words that clap's definition takes and whose numbers
-//! are in their ranges. Only want of memory is free.
+//! `specs/Values.antt` says what words ask for: exactly the words that clap's definition takes and whose values
+//! their options take. Only want of memory is free.
 #![tactic(auto)]
 
 mod app;
@@ -16,8 +16,6 @@ mod command;
 mod matches;
 mod numeral;
 mod opt;
-#[cfg(test)]
-mod tests;
 mod usage_fault;
 mod words;
 mod words_fault;

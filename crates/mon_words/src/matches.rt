@@ -4,7 +4,7 @@ ghost use Rattle.std.specs.Str.Parse.{digits_value};
 ghost use Rattle.clap.specs.Words.{app_of, first_of, found_of, rows_of};
 ghost use Rattle.mon_words.specs.Apps.{app_for, name_ids};
 ghost use Rattle.mon_words.specs.Needs.{IsStrict, NeedsEach};
-ghost use Rattle.mon_words.specs.Options.{id_of, is_in_range};
+ghost use Rattle.mon_words.specs.Options.{has_number, id_of, is_in_range};
 ghost use Rattle.mon_words.specs.Values.{Explains, IsBare, IsNamed, is_refused, is_taken, number_or, rest_of, rows_in, takes_options};
 
 use crate::app::{central_app, check_app, total_app};
@@ -23,7 +23,8 @@ pub(crate) fn matches_in<'a>(
     ensures taken { IfOk result (λ _. is_taken command (map string_bytes words.now) ≡ true) }
     ensures rows { IfOk result (λ matches. rows_of (found_of matches) ≡ rows_in command (map string_bytes words.now)) }
     ensures named { IfOk result (λ _. IsNamed command (rows_in command (map string_bytes words.now))) }
-    ensures bare { IfOk result (λ _. takes_options command ≡ false → IsBare (rows_in command (map string_bytes words.now))) }
+    ensures bare { IfOk result
+        (λ _. takes_options command ≡ false → IsBare (rows_in command (map string_bytes words.now))) }
     ensures refused { IfErr result (Explains (rest_of command (map string_bytes words.now))) }
 {
     let Ok(app) = app_for(alloc, command) else {
@@ -65,6 +66,7 @@ pub(crate) fn number_or(
     option: Opt,
     default: u64,
 ) -> Result<u64, WordsFault>
+    requires numeric { has_number option ≡ true }
     requires range { is_in_range command option default ≡ true }
     ensures taken { MatchResult result
         (λ _. is_refused command (rows_of (found_of matches.now)) option ≡ false)
@@ -86,10 +88,12 @@ pub(crate) fn number_given(
     command: Command,
     option: Opt,
 ) -> Result<Option<u64>, WordsFault>
+    requires numeric { has_number option ≡ true }
     ensures taken { MatchResult result
         (λ _. is_refused command (rows_of (found_of matches.now)) option ≡ false)
         (λ _. is_refused command (rows_of (found_of matches.now)) option ≡ true) }
-    ensures number { IfOk result (λ number. number ≡ option_map (digits_value 10) (first_of (id_of option) (rows_of (found_of matches.now)))) }
+    ensures number { IfOk result (λ number. number
+        ≡ option_map (digits_value 10) (first_of (id_of option) (rows_of (found_of matches.now)))) }
     ensures range { IfOk result (λ number. IfSome number (λ n. is_in_range command option n ≡ true)) }
     ensures fault { IfErr result (λ fault. fault ≡ WordsFault.Usage (UsageFault.Value option)) }
 {

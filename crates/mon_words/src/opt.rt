@@ -1,10 +1,10 @@
-//! The options with a number.
+//! The options with a value.
 ghost use Rattle.std.specs.Prelude.{◌≡◌};
 ghost use Rattle.mon_words.specs.Options.{id_of, is_in_range, name_of};
 
 use crate::Command;
 
-/// An option whose value is a number.
+/// An option whose value is a number, or one of two words.
 #[derive(Clone, Copy, Debug, PartialEq, Eq)]
 pub enum Opt {
     /// `--seed`: 0 to 2^64 - 1, by default 1.
@@ -17,6 +17,8 @@ pub enum Opt {
     Width,
     /// `--heap`: up to 1,024, from 0 and by default 0 for `central`; 0 keeps all live keys.
     Heap,
+    /// `--weight`: `packets` or `bytes`, by default `packets`.
+    Weight,
     /// `--epoch`: 1 to 2^32 - 1 seconds, by default the whole trace.
     Epoch,
     /// `--heavy`: 1 to 1,000 per mille, by default 10.
@@ -34,6 +36,7 @@ impl Opt {
             Opt::Rows => "--rows",
             Opt::Width => "--width",
             Opt::Heap => "--heap",
+            Opt::Weight => "--weight",
             Opt::Epoch => "--epoch",
             Opt::Heavy => "--heavy",
         }
@@ -49,12 +52,13 @@ impl Opt {
             Opt::Rows => "rows",
             Opt::Width => "width",
             Opt::Heap => "heap",
+            Opt::Weight => "weight",
             Opt::Epoch => "epoch",
             Opt::Heavy => "heavy",
         }
     }
 
-    // Whether it takes this number for the command.
+    // Whether it takes this number for the command, none where its value is a word.
     pub(crate) fn takes(self, command: Command, number: u64) -> bool
         ensures taken { result ≡ is_in_range command self number }
     {
@@ -64,6 +68,7 @@ impl Opt {
             Opt::Rows => matches!(number, 1 | 3 | 5 | 7),
             Opt::Width => matches!(number, 16 | 32 | 64 | 128 | 256 | 512 | 1024 | 2048),
             Opt::Heap => command.least_heap() <= number && number <= 1024,
+            Opt::Weight => false,
             Opt::Epoch => 1 <= number && number <= 4_294_967_295,
             Opt::Heavy => 1 <= number && number <= 1000,
         }

@@ -10,6 +10,6 @@ pub enum UsageFault {
     UnknownCommand,
     /// The command does not take the other words.
     Refused,
-    /// The value of this option is no number that it takes.
+    /// The value of this option is none that it takes.
     Value(Opt),
 }

@@ -4,7 +4,7 @@ ghost use Rattle.std.specs.Option.{option_map};
 ghost use Rattle.std.specs.Str.Parse.{digits_value};
 ghost use Rattle.clap.specs.Words.{first_of, found_of, rows_of};
 ghost use Rattle.mon_words.specs.Options.{id_of};
-ghost use Rattle.mon_words.specs.Values.{Explains, HasDefaults, IsInRange, IsNamed, is_refused, name_count, name_in, names_in, read_of, rest_of, takes_options, words_of};
+ghost use Rattle.mon_words.specs.Values.{Explains, HasDefaults, IsInRange, IsNamed, is_refused, name_count, name_in, names_in, read_of, rest_of, takes_options, weighs_bytes, words_of};
 
 use crate::matches::{matches_in, number_given, number_or, text_of};
 use crate::{Command, Opt, UsageFault, WordsFault};
@@ -12,7 +12,7 @@ use clap::ArgMatches;
 use std::alloc::{AllocError, Global};
 use std::marker::Model;
 
-/// A command with its names in order, the name of a topology where one is given, and the numbers of its options.
+/// A command with its names in order, the name of a topology where one is given, and the values of its options.
 /// An option that is not given, or that the command hasn't, has its default.
 #[derive(Debug, Drop)]
 pub struct Words {
@@ -31,6 +31,8 @@ pub struct Words {
     pub width: u16,
     /// `--heap`, the keys that a level keeps, up to 1,024; 0 keeps all live keys.
     pub heap: u16,
+    /// `--weight`: whether a packet weighs its original length in bytes, and not 1.
+    pub bytes: bool,
     /// `--epoch`, in seconds: at least 1, and None where the whole trace is one epoch.
     pub epoch: Option<u32>,
     /// `--heavy`, the share of a heavy key: 1 to 1,000 per mille.
@@ -53,6 +55,7 @@ impl Model for Words {
       rows = words.rows;
       width = words.width;
       heap = words.heap;
+      bytes = words.bytes;
       epoch = words.epoch;
       heavy = words.heavy;
     } };
@@ -60,8 +63,8 @@ impl Model for Words {
 
 /// Reads the words of a call, of which the first is the command. They are refused exactly where there is none
 /// (`NoCommand`), the first is no command (`UnknownCommand`), clap does not take the others (`Refused`), or the value
-/// of an option is no number of its range (`Value`, the first in the order of the table): 1 to 20 digits, of which
-/// the first may be 0. Takes memory.
+/// of an option is none that it takes (`Value`, the first in the order of the table). A number is 1 to 20 digits, of
+/// which the first may be 0, within its range. Takes memory.
 pub fn read_words(alloc: Global, words: &[String]) -> Result<Words, WordsFault>
     ensures asked { MatchResult result
         (λ read. words_of (map string_bytes words.now) ≡ Ok read)
@@ -113,6 +116,7 @@ fn read_matches(
     let rows = number_or(matches, command, Opt::Rows, 5)?;
     let width = number_or(matches, command, Opt::Width, 1024)?;
     let heap = number_or(matches, command, Opt::Heap, command.default_heap())?;
+    let bytes = weight_in(matches)?;
     let epoch = epoch_in(matches, command)?;
     let heavy = number_or(matches, command, Opt::Heavy, 10)?;
     Ok(Words {
@@ -124,6 +128,7 @@ fn read_matches(
         rows: rows as u8,
         width: width as u16,
         heap: heap as u16,
+        bytes,
         epoch,
         heavy: heavy as u32,
     })
@@ -136,15 +141,16 @@ fn names_in(
     command: Command,
 ) -> Result<Vec<String>, AllocError>
     requires named { IsNamed command (rows_of (found_of matches.now)) }
-    ensures names { IfOk result (λ names. map string_bytes names.items ≡ names_in command (rows_of (found_of matches.now))) }
+    ensures names { IfOk result
+        (λ names. map string_bytes names.items ≡ names_in command (rows_of (found_of matches.now))) }
     ensures count { IfOk result (λ names. length (map string_bytes names.items) ≡ name_count command) }
 {
     let mut names = Vec::new(alloc);
     match command {
-        Command::Total | Command::Central => add_name(alloc, matches, "trace", &mut names)?,
+        Command::Total | Command::Central => add_name(alloc, matches, "TRACE", &mut names)?,
         Command::Check => {
-            add_name(alloc, matches, "network", &mut names)?;
-            add_name(alloc, matches, "tree", &mut names)?;
+            add_name(alloc, matches, "TOPOLOGY", &mut names)?;
+            add_name(alloc, matches, "TREE", &mut names)?;
         }
     }
     Ok(names)
@@ -177,12 +183,28 @@ fn topology_in(alloc: Global, matches: &ArgMatches<'_>) -> Result<Option<String>
     }
 }
 
+// Whether packets weigh their bytes.
+fn weight_in(matches: &ArgMatches<'_>) -> Result<bool, WordsFault>
+    ensures taken { (command : Command) → MatchResult result
+        (λ _. is_refused command (rows_of (found_of matches.now)) Opt.Weight ≡ false)
+        (λ _. is_refused command (rows_of (found_of matches.now)) Opt.Weight ≡ true) }
+    ensures bytes { IfOk result (λ bytes. bytes ≡ weighs_bytes (rows_of (found_of matches.now))) }
+    ensures fault { IfErr result (λ fault. fault ≡ WordsFault.Usage (UsageFault.Value Opt.Weight)) }
+{
+    match text_of(matches, Opt::Weight.id()) {
+        None | Some("packets") => Ok(false),
+        Some("bytes") => Ok(true),
+        Some(_) => Err(WordsFault::Usage(UsageFault::Value(Opt::Weight))),
+    }
+}
+
 // The seconds of an epoch.
 fn epoch_in(matches: &ArgMatches<'_>, command: Command) -> Result<Option<u32>, WordsFault>
     ensures taken { MatchResult result
         (λ _. is_refused command (rows_of (found_of matches.now)) Opt.Epoch ≡ false)
         (λ _. is_refused command (rows_of (found_of matches.now)) Opt.Epoch ≡ true) }
-    ensures seconds { IfOk result (λ epoch. epoch ≡ option_map (digits_value 10) (first_of (id_of Opt.Epoch) (rows_of (found_of matches.now)))) }
+    ensures seconds { IfOk result (λ epoch. epoch
+        ≡ option_map (digits_value 10) (first_of (id_of Opt.Epoch) (rows_of (found_of matches.now)))) }
     ensures range { IfOk result (λ epoch. IfSome epoch (λ seconds. 1 ≤ seconds)) }
     ensures fault { IfErr result (λ fault. fault ≡ WordsFault.Usage (UsageFault.Value Opt.Epoch)) }
 {

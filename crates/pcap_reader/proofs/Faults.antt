@@ -17,34 +17,49 @@ module _ (order : Order) (count offset : ℕ) where
   unfolding fault_at
   too_many rest is = grind (arith, nat_tests)
 
-  pub short_head : (rest : List ℕ) → count ≢ 1048576 → length rest < 16 → fault_at order count offset rest ≡ Some (ShortRecord offset)
+  pub short_head : (rest : List ℕ) → count ≢ 1048576 → length rest < 16
+      → fault_at order count offset rest ≡ Some (ShortRecord offset)
   unfolding fault_at
   short_head rest few short = grind (arith, nat_tests)
 
-  long_rest : (rest : List ℕ) → count ≢ 1048576 → 16 ≤ length rest → 262144 < number_32 order (take 16 rest) 8 → fault_at order count offset rest ≡ Some (LongRecord offset (number_32 order (take 16 rest) 8))
+  long_rest : (rest : List ℕ) → count ≢ 1048576 → 16 ≤ length rest → 262144 < number_32 order (take 16 rest) 8
+      → fault_at order count offset rest ≡ Some (LongRecord offset (number_32 order (take 16 rest) 8))
   unfolding fault_at
   long_rest rest few whole long = grind (arith, nat_tests)
 
-  cut_rest : (rest : List ℕ) → count ≢ 1048576 → 16 ≤ length rest → number_32 order (take 16 rest) 8 ≤ 262144 → length rest < 16 + number_32 order (take 16 rest) 8 → fault_at order count offset rest ≡ Some (ShortRecord offset)
+  cut_rest : (rest : List ℕ) → count ≢ 1048576 → 16 ≤ length rest → number_32 order (take 16 rest) 8 ≤ 262144
+      → length rest < 16 + number_32 order (take 16 rest) 8
+      → fault_at order count offset rest ≡ Some (ShortRecord offset)
   unfolding fault_at
   cut_rest rest few whole fits cut = grind (arith, nat_tests)
 
-  whole_rest : (rest : List ℕ) → count ≢ 1048576 → 16 ≤ length rest → number_32 order (take 16 rest) 8 ≤ 262144 → 16 + number_32 order (take 16 rest) 8 ≤ length rest → fault_at order count offset rest ≡ None
+  whole_rest : (rest : List ℕ) → count ≢ 1048576 → 16 ≤ length rest → number_32 order (take 16 rest) 8 ≤ 262144
+      → 16 + number_32 order (take 16 rest) 8 ≤ length rest → fault_at order count offset rest ≡ None
   unfolding fault_at
   whole_rest rest few whole fits all = grind (arith, nat_tests)
 
-  pub long_record : (head more : List ℕ) → count ≢ 1048576 → length head ≡ 16 → 262144 < number_32 order head 8 → fault_at order count offset (head ++ more) ≡ Some (LongRecord offset (number_32 order head 8))
+  pub long_record : (head more : List ℕ) → count ≢ 1048576 → length head ≡ 16 → 262144 < number_32 order head 8
+      → fault_at order count offset (head ++ more) ≡ Some (LongRecord offset (number_32 order head 8))
   long_record head more few size =
-      subst (λ (front : List ℕ). 262144 < number_32 order front 8 → fault_at order count offset (head ++ more) ≡ Some (LongRecord offset (number_32 order front 8)))
+      subst (λ (front : List ℕ). 262144 < number_32 order front 8 → fault_at order count offset (head ++ more) ≡ Some
+      (LongRecord offset (number_32 order front 8)))
       (take_at head more 16 size) (λ long. long_rest (head ++ more) few (omega (arith, length-append head more)) long)
 
-  pub cut_record : (head more : List ℕ) → count ≢ 1048576 → length head ≡ 16 → number_32 order head 8 ≤ 262144 → length more < number_32 order head 8 → fault_at order count offset (head ++ more) ≡ Some (ShortRecord offset)
+  pub cut_record : (head more : List ℕ) → count ≢ 1048576 → length head ≡ 16 → number_32 order head 8 ≤ 262144
+      → length more < number_32 order head 8 → fault_at order count offset (head ++ more) ≡ Some (ShortRecord offset)
   cut_record head more few size =
-      subst (λ (front : List ℕ). number_32 order front 8 ≤ 262144 → length more < number_32 order front 8 → fault_at order count offset (head ++ more) ≡ Some (ShortRecord offset))
-      (take_at head more 16 size) (λ fits cut. cut_rest (head ++ more) few (omega (arith, length-append head more)) fits (omega (arith, length-append head more)))
+      subst (λ (front : List ℕ). number_32 order front 8 ≤ 262144 → length more < number_32 order front 8
+      → fault_at order count offset (head ++ more) ≡ Some (ShortRecord offset))
+      (take_at head more 16 size)
+      (λ fits cut. cut_rest (head ++ more) few (omega (arith, length-append head more)) fits
+      (omega (arith, length-append head more)))
 
   -- a whole record has no fault
-  pub no_fault : (head more : List ℕ) → count ≢ 1048576 → length head ≡ 16 → number_32 order head 8 ≤ 262144 → number_32 order head 8 ≤ length more → fault_at order count offset (head ++ more) ≡ None
+  pub no_fault : (head more : List ℕ) → count ≢ 1048576 → length head ≡ 16 → number_32 order head 8 ≤ 262144
+      → number_32 order head 8 ≤ length more → fault_at order count offset (head ++ more) ≡ None
   no_fault head more few size =
-      subst (λ (front : List ℕ). number_32 order front 8 ≤ 262144 → number_32 order front 8 ≤ length more → fault_at order count offset (head ++ more) ≡ None)
-      (take_at head more 16 size) (λ fits all. whole_rest (head ++ more) few (omega (arith, length-append head more)) fits (omega (arith, length-append head more)))
+      subst (λ (front : List ℕ). number_32 order front 8 ≤ 262144 → number_32 order front 8 ≤ length more
+      → fault_at order count offset (head ++ more) ≡ None)
+      (take_at head more 16 size)
+      (λ fits all. whole_rest (head ++ more) few (omega (arith, length-append head more)) fits
+      (omega (arith, length-append head more)))

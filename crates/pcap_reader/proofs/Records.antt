@@ -19,19 +19,23 @@ header_long bytes header is = elim (cases_lt (length bytes) 24) [
   where
     refused : length bytes < 24 → ⊥
     refused short =
-        let err : header_of bytes ≡ Err (ShortHeader (length (take 24 bytes))) = header_short (take 24 bytes) (omega (arith, length-take 24 bytes)) in
+        let err : header_of bytes ≡ Err (ShortHeader (length (take 24 bytes))) = header_short (take 24 bytes)
+        (omega (arith, length-take 24 bytes)) in
         cc
 
 -- what follows an accepted header doesn't change it
-pub header_more : (bytes more : List ℕ) (header : Header) → header_of bytes ≡ Ok header → header_of (bytes ++ more) ≡ Ok header
+pub header_more : (bytes more : List ℕ) (header : Header) → header_of bytes ≡ Ok header
+    → header_of (bytes ++ more) ≡ Ok header
 header_more bytes more header is = ap header_in (take-append-le 24 bytes more (header_long bytes header is)) ∙ is
 
-pub All-push : (P : Record → Type 0) (members : List Record) (member : Record) → AllByRecursion P members → P member → AllByRecursion P (members ++ member ∷ [])
+pub All-push : (P : Record → Type 0) (members : List Record) (member : Record) → AllByRecursion P members → P member
+    → AllByRecursion P (members ++ member ∷ [])
 All-push P [] member each holds = (holds, tt)
 All-push P (m ∷ members) member each holds = (each.0, All-push P members member each.1 holds)
 
 -- a rest behind a trace
-pub begins_more : {front : List ℕ} {header : Header} {members : List Record} (more : List ℕ) → Begins front header members [] → Begins (front ++ more) header members more
+pub begins_more : {front : List ℕ} {header : Header} {members : List Record} (more : List ℕ)
+    → Begins front header members [] → Begins (front ++ more) header members more
 begins_more {front} {header} {members} more begins = record {
   accepted = header_more front more header begins.accepted;
   each = begins.each;
@@ -42,7 +46,8 @@ begins_more {front} {header} {members} more begins = record {
 }
 
 -- one more record behind a trace
-pub begins_push : {front : List ℕ} {header : Header} {members : List Record} (member : Record) → Begins front header members [] → IsRecord header.order member → length members < 1048576
+pub begins_push : {front : List ℕ} {header : Header} {members : List Record} (member : Record)
+    → Begins front header members [] → IsRecord header.order member → length members < 1048576
     → Begins (front ++ spelling member) header (members ++ member ∷ []) []
 begins_push {front} {header} {members} member begins is room = record {
   accepted = header_more front (spelling member) header begins.accepted;

@@ -46,7 +46,8 @@ Begun contents before now (Err (Bad fault)) = IfSome contents (λ bytes. Broken 
 Begun contents before now (Err Memory) = IsLeft contents before now
 
 -- how a step behind these records ended: with the next record, at the end, or at a fault behind them
-abbrev pub Advanced : Option (List ℕ) → Option (List ℕ) → PcapReader → List Record → Result (Option Packet) PcapStop → Type 0
+abbrev pub Advanced : Option (List ℕ) → Option (List ℕ) → PcapReader → List Record → Result (Option Packet) PcapStop
+    → Type 0
 Advanced contents now reader members (Ok (Some packet)) =
     (member : Record) × SoFar contents now reader (members ++ member ∷ [])
     × (packet ≡ packet_of reader.header member) × (captured_of reader ≡ member.captured)
@@ -54,3 +55,10 @@ Advanced contents now reader members (Ok None) = SoFar contents now reader membe
 Advanced contents now reader members (Err Read) = IsRestOf contents now
 Advanced contents now reader members (Err (Bad fault)) = IfSome contents (λ bytes. Broken bytes members fault)
 Advanced contents now reader members (Err Memory) = ⊥
+
+-- The captured bytes behind a call: those of the packet that it gave, those of the last packet still at the end, and
+-- none behind a stop. Which a given packet's are is said by Advanced.
+abbrev pub KeepsCaptured : List ℕ → List ℕ → Result (Option Packet) PcapStop → Type 0
+KeepsCaptured before now (Ok (Some packet)) = Unit {0}
+KeepsCaptured before now (Ok None) = now ≡ before
+KeepsCaptured before now (Err stop) = now ≡ []

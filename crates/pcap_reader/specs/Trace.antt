@@ -47,7 +47,8 @@ unfoldable pub fault_at : Order → ℕ → ℕ → List ℕ → Option PcapFaul
 fault_at order count offset rest =
     if count == 1048576 then Some TooMany
     else if nat_lt (length rest) 16 then Some (ShortRecord offset)
-    else if nat_lt 262144 (number_32 order (take 16 rest) 8) then Some (LongRecord offset (number_32 order (take 16 rest) 8))
+    else if nat_lt 262144 (number_32 order (take 16 rest) 8) then Some
+    (LongRecord offset (number_32 order (take 16 rest) 8))
     else if nat_lt (length rest) (16 + number_32 order (take 16 rest) 8) then Some (ShortRecord offset)
     else None
 

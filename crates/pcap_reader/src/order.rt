@@ -3,6 +3,8 @@ ghost use Rattle.std.specs.Prelude.{◌≡◌, ◌≤◌, ◌+◌, length};
 ghost use Rattle.pcap_reader.specs.Numbers.{number_16, number_32, little_32};
 ghost use Rattle.flow_keys.specs.Numbers.{big_32};
 
+use byteorder::{BigEndian, ByteOrder, LittleEndian};
+
 /// The byte order of a trace's numbers.
 #[derive(Clone, Copy, Debug, PartialEq, Eq)]
 pub(crate) enum Order {
@@ -16,10 +18,9 @@ impl Order {
         requires { at + 2 ≤ length bytes.now }
         ensures { result ≡ number_16 self bytes.now at }
     {
-        let digits = [bytes[at], bytes[at + 1]];
         match self {
-            Order::Little => u16::from_le_bytes(digits),
-            Order::Big => u16::from_be_bytes(digits),
+            Order::Little => LittleEndian::read_u16(&bytes[at..]),
+            Order::Big => BigEndian::read_u16(&bytes[at..]),
         }
     }
 
@@ -28,10 +29,9 @@ impl Order {
         requires { at + 4 ≤ length bytes.now }
         ensures { result ≡ number_32 self bytes.now at }
     {
-        let digits = [bytes[at], bytes[at + 1], bytes[at + 2], bytes[at + 3]];
         match self {
-            Order::Little => u32::from_le_bytes(digits),
-            Order::Big => u32::from_be_bytes(digits),
+            Order::Little => LittleEndian::read_u32(&bytes[at..]),
+            Order::Big => BigEndian::read_u32(&bytes[at..]),
         }
     }
 }

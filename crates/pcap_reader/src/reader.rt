@@ -1,5 +1,5 @@
 //! The reader of a trace.
-ghost use Rattle.std.specs.Prelude.{◌≡◌, ◌≢◌, ◌⊎◌, ◌≤◌, ◌<◌, ◌+◌, ◌*◌, ◌++◌, [], ◌∷◌, List, ℕ, Option, Some, Err, length, take, IfOk, IfErr, IfSome, IsErrOf, MatchResult};
+ghost use Rattle.std.specs.Prelude.{◌≡◌, ◌≢◌, ◌⊎◌, ◌≤◌, ◌<◌, ◌+◌, ◌*◌, ◌++◌, [], ◌∷◌, List, ℕ, Option, Some, None, Err, length, take, IfOk, IfErr, IfSome, IsErrOf, MatchResult};
 ghost use Rattle.mon_io.specs.Faults.{Rose, HasCause};
 ghost use Rattle.mon_io.specs.Inputs.{IsRestOf, Picked, PickedNothing};
 ghost use Rattle.pcap_reader.specs.Filling.{Filled};
@@ -34,7 +34,7 @@ pub struct PcapReader {
 
 impl PcapReader {
     ghost use Rattle.pcap_reader.specs.Trace.{Record, packet_of};
-    ghost use Rattle.pcap_reader.specs.Reader.{Begun, Advanced, SoFar, GoesPast, captured_of, header_read, stop_of};
+    ghost use Rattle.pcap_reader.specs.Reader.{Begun, Advanced, SoFar, GoesPast, KeepsCaptured, captured_of, header_read, stop_of};
 
     /// Picks the named input and reads its header. It takes the buffer once the name is picked, and is
     /// the one call that can answer `PcapStop::Memory`.
@@ -43,11 +43,13 @@ impl PcapReader {
         inputs: &mut I,
         name: &str,
     ) -> Result<PcapReader, PcapStop>
-        ensures begun { Begun ((I.state inputs.old).contents name.now) (I.state inputs.old).rest (I.state inputs.new).rest result }
+        ensures begun { Begun ((I.state inputs.old).contents name.now) (I.state inputs.old).rest
+            (I.state inputs.new).rest result }
         ensures picks { Picked (I.picks inputs.old) (I.picks inputs.new) (name.now ∷ []) }
         ensures stays { (I.state inputs.new).contents ≡ (I.state inputs.old).contents }
         ensures later { (I.state inputs.old).faults ≤ (I.state inputs.new).faults }
         ensures cause { IsErrOf result PcapStop.Read → Rose (I.state inputs.old).faults (I.state inputs.new).faults }
+        ensures captured { IfOk result (λ reader. captured_of reader ≡ []) }
     {
         let Ok(()) = inputs.pick(name) else {
             return Err(PcapStop::Read);
@@ -78,7 +80,8 @@ impl PcapReader {
         ensures advances { (contents : Option (List ℕ)) (members : List Record) →
             SoFar contents (I.state inputs.old).rest self.old members →
             Advanced contents (I.state inputs.new).rest self.new members result }
-        ensures stopped { IfSome (stop_of self.old) (λ stop. (result ≡ Err stop) × ((I.state inputs.new).rest ≡ (I.state inputs.old).rest)) }
+        ensures stopped { IfSome (stop_of self.old)
+            (λ stop. (result ≡ Err stop) × ((I.state inputs.new).rest ≡ (I.state inputs.old).rest)) }
         ensures stops { IfErr result (λ stop. stop_of self.new ≡ Some stop) }
         ensures header { header_read self.new ≡ header_read self.old }
         ensures picks { PickedNothing (I.picks inputs.old) (I.picks inputs.new) }
@@ -86,20 +89,33 @@ impl PcapReader {
         ensures later { (I.state inputs.old).faults ≤ (I.state inputs.new).faults }
         ensures cause { IsErrOf result PcapStop.Read →
             (stop_of self.old ≡ Some PcapStop.Read) ⊎ Rose (I.state inputs.old).faults (I.state inputs.new).faults }
+        ensures captured { KeepsCaptured (captured_of self.old) (captured_of self.new) result }
     {
         if let Some(stop) = self.stop {
-            return Err(stop);
+            return Err(self.stopped(stop));
         }
-        let result = self.step(inputs);
-        if let Err(stop) = result {
-            self.stop = Some(stop);
+        match self.step(inputs) {
+            Ok(packet) => Ok(packet),
+            Err(stop) => Err(self.stopped(stop)),
         }
-        result
     }
 
-    /// The captured bytes of the last packet that `next` gave. It takes no memory.
+    // Keeps a stop for every later call, and no captured bytes.
+    fn stopped(&mut self, stop: PcapStop) -> PcapStop
+        ensures stop { result ≡ stop }
+        ensures kept { stop_of self.new ≡ Some stop }
+        ensures captured { captured_of self.new ≡ [] }
+        ensures header { header_read self.new ≡ header_read self.old }
+    {
+        self.stop = Some(stop);
+        self.captured_bytes = 0;
+        stop
+    }
+
+    /// The captured bytes of the last packet that `next` gave, also at the end of the trace. There are
+    /// none before the first packet and after a stop. It takes no memory.
     pub fn captured(&self) -> &[u8]
-        ensures { result.now ≡ captured_of self.now }
+        ensures bytes { result.now ≡ captured_of self.now }
     {
         &self.buffer[..self.captured_bytes]
     }
@@ -115,6 +131,7 @@ impl PcapReader {
         ensures stays { (I.state inputs.new).contents ≡ (I.state inputs.old).contents }
         ensures later { (I.state inputs.old).faults ≤ (I.state inputs.new).faults }
         ensures cause { IsErrOf result PcapStop.Read → Rose (I.state inputs.old).faults (I.state inputs.new).faults }
+        ensures end { IfOk result (λ packet. packet ≡ None → captured_of self.new ≡ captured_of self.old) }
     {
         let mut head = [0; 16];
         let Ok(count) = fill(inputs, &mut head) else {
@@ -139,7 +156,8 @@ impl PcapReader {
     // The captured length that a head says, or the fault of what begins with it.
     fn captured_length(&self, head: &[u8]) -> Result<usize, PcapFault>
         requires { length head.now ≤ 16 }
-        ensures ok { IfOk result (λ n. (length head.now ≡ 16) × (n ≤ 262144) × (n ≡ number_32 (header_read self.now).order head.now 8)) }
+        ensures ok { IfOk result
+            (λ n. (length head.now ≡ 16) × (n ≤ 262144) × (n ≡ number_32 (header_read self.now).order head.now 8)) }
         ensures room { IfOk result (λ n. self.now.count < 1048576) }
         ensures fault { IfErr result (λ fault. (more : List ℕ) → (length head.now < 16 → more ≡ []) →
             fault_at (header_read self.now).order self.now.count self.now.at (head.now ++ more) ≡ Some fault) }

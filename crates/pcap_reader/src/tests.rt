@@ -95,11 +95,13 @@ fn bad(fault: PcapFault) -> Option<PcapStop> {
 // The frame comes three times, and then the end.
 fn assert_frames<I: Inputs>(rt: &impl Abort, alloc: Global, inputs: &mut I) -> Result<(), Fail> {
     let mut reader = PcapReader::begin(alloc, inputs, "trace")?;
+    assert_eq!(rt; reader.captured(), b"".as_slice());
     for _ in 0..3 {
         assert_eq!(rt; reader.next(inputs), Ok(Some(PACKET)));
         assert_eq!(rt; reader.captured(), FRAME.as_slice());
     }
     assert_eq!(rt; reader.next(inputs), Ok(None));
+    assert_eq!(rt; reader.captured(), FRAME.as_slice());
     Ok(())
 }
 
@@ -115,6 +117,45 @@ fn gives_each_packet(rt: HostRuntime) -> Result<(), Fail> {
         inputs: inputs(alloc, bytes, &[])?,
     };
     assert_frames(&rt, alloc, &mut trickle)
+}
+
+// The trace of three records of the frame, with two bytes changed at each of two places.
+fn changed(
+    alloc: Global,
+    (header, head): (&[u8], &[u8]),
+    changes: [(usize, [u8; 2]); 2],
+) -> Result<Vec<u8>, AllocError> {
+    let mut bytes = trace(alloc, header, head)?;
+    for (at, new) in changes {
+        for (byte, new) in bytes.iter_mut().skip(at).zip(new) {
+            *byte = new;
+        }
+    }
+    Ok(bytes)
+}
+
+// The link of the first packet, if there is one.
+fn first_link<I: Inputs>(alloc: Global, inputs: &mut I) -> Option<Link> {
+    let mut reader = PcapReader::begin(alloc, inputs, "trace").ok()?;
+    Some(reader.next(inputs).ok()??.link)
+}
+
+// Times in nanoseconds with little-endian numbers, in microseconds with big-endian ones, and each link.
+#[test]
+fn reads_every_magic_and_link(rt: HostRuntime) -> Result<(), Fail> {
+    let alloc = rt.alloc();
+    let little = (LITTLE.as_slice(), LITTLE_HEAD.as_slice());
+    let big = (BIG.as_slice(), BIG_HEAD.as_slice());
+    for (parts, changes, link) in [
+        (little, [(0, [0x4d, 0x3c]), (20, [1, 0])], Link::Ethernet),
+        (little, [(0, [0x4d, 0x3c]), (20, [101, 0])], Link::Raw),
+        (big, [(2, [0xc3, 0xd4]), (22, [0, 113])], Link::Cooked1),
+        (big, [(2, [0xc3, 0xd4]), (22, [1, 20])], Link::Cooked2),
+    ] {
+        let mut inputs = inputs(alloc, changed(alloc, parts, changes)?, &[])?;
+        assert_eq!(rt; first_link(alloc, &mut inputs), Some(link), "{changes:?}");
+    }
+    Ok(())
 }
 
 // The trace of three little-endian records with four bytes changed at a place, cut to a length.
@@ -199,6 +240,7 @@ fn stops_at_a_failed_read(rt: HostRuntime) -> Result<(), Fail> {
     let mut reader = PcapReader::begin(alloc, &mut failing, "trace")?;
     assert_eq!(rt; reader.next(&mut failing), Ok(Some(PACKET)));
     assert_eq!(rt; reader.next(&mut failing), Err(PcapStop::Read));
+    assert_eq!(rt; reader.captured(), b"".as_slice());
     assert_eq!(rt; reader.next(&mut failing), Err(PcapStop::Read));
     assert_eq!(rt;
         PcapReader::begin(alloc, &mut failing, "other").err(),

@@ -10,7 +10,9 @@ returns-in_err-written-clause-part g c =
 pub loop-written-preserved : goal.loop-written-preserved
 loop-written-preserved g c = (
   record {
-    within = let taken = c.in_ok-written.ensures.bytes.0 in omega (arith, taken, c.loop-written.invariant.0.within, length-take {A = ℕ}, length-drop {A = ℕ});
+    within =
+        let taken = c.in_ok-written.ensures.bytes.0 in omega
+        (arith, taken, c.loop-written.invariant.0.within, length-take {A = ℕ}, length-drop {A = ℕ});
     grew = grew_on _ _ _ c.loop-written.invariant.0.grew c.in_ok-written.ensures.bytes.2;
     later = omega (arith, c.loop-written.invariant.0.later, c.write.ensures.cause.later);
   },

@@ -3,6 +3,6 @@ use Rattle.mon_words.proofs.app.with_trace_options.Goals as goal
 
 pub returns-clause-needs : goal.returns-clause-needs
 returns-clause-needs c =
-    let first = c.in_ok-app.ensures.needs (codes "trace") refl c.requires.needs in
-    let second = c.in_ok-app-2.ensures.needs (codes "trace") refl first in
-    c.in_ok-app-3.ensures.needs (codes "trace") refl second
+    let first = c.in_ok-app.ensures.needs (codes "TRACE") refl c.requires.needs in
+    let second = c.in_ok-app-2.ensures.needs (codes "TRACE") refl first in
+    c.in_ok-app-3.ensures.needs (codes "TRACE") refl second

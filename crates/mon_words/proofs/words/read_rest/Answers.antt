@@ -7,5 +7,7 @@ use Rattle.mon_words.proofs.words.read_rest.Goals as goal
 pub returns-clause-defaults : goal.returns-clause-defaults
 returns-clause-defaults c =
     let read = c.in_ok-matches in
-    let bare = subst (λ (rows : List Row). takes_options c.args.command ≡ false → IsBare rows) (sym read.ensures.rows) read.ensures.bare in
-    bare_holds_defaults c.args.command (rows_of (found_of read.matches)) c.read_matches.result bare c.read_matches.ensures.asked
+    let bare = subst (λ (rows : List Row). takes_options c.args.command ≡ false → IsBare rows)
+    (sym read.ensures.rows) read.ensures.bare in
+    bare_holds_defaults c.args.command
+    (rows_of (found_of read.matches)) c.read_matches.result bare c.read_matches.ensures.asked

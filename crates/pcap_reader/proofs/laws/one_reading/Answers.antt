@@ -15,4 +15,5 @@ pub returns-clause-always_one : goal.returns-clause-always_one
 returns-clause-always_one c = always_one
 
 pub returns-clause-no_fault : goal.returns-clause-no_fault
-returns-clause-no_fault c = λ order count offset rest few. (starts_record order count offset rest, record_no_fault order count offset rest few)
+returns-clause-no_fault c =
+    λ order count offset rest few. (starts_record order count offset rest, record_no_fault order count offset rest few)

@@ -1,70 +1,7 @@
-//! Worked words with what they ask for, and with why they are refused.
-use crate::{Command, Opt, UsageFault, Words, WordsFault, read_words};
-use std::alloc::{AllocError, Global};
+//! Words that are taken, and what they ask for.
+use crate::lines::read;
+use mon_words::{Command, Opt, Words};
 use std::test::Fail;
-
-// Reads a line whose words are divided by one space each, so that a space at its end stands before an empty word.
-fn read(alloc: Global, line: &str) -> Result<Result<Words, WordsFault>, AllocError> {
-    let mut words = Vec::new(alloc);
-    for word in line.split(' ') {
-        words.push(String::from_str(alloc, word)?)?;
-    }
-    Ok(read_words(alloc, &words))
-}
-
-#[test]
-fn refuses_words(rt: HostRuntime) -> Result<(), Fail> {
-    for (line, fault) in [
-        ("foo", UsageFault::UnknownCommand),
-        ("foo A", UsageFault::UnknownCommand),
-        ("", UsageFault::UnknownCommand),
-        ("central", UsageFault::Refused),
-        ("central A B", UsageFault::Refused),
-        ("central A --epoch -5", UsageFault::Refused),
-        ("central A --epoch 60 --epoch 60", UsageFault::Refused),
-        ("central A --ep 60", UsageFault::Refused),
-        ("central A --epoch", UsageFault::Refused),
-        ("central --help", UsageFault::Refused),
-        ("central A --rows 2 --ep 60", UsageFault::Refused),
-        ("total", UsageFault::Refused),
-        ("total A --seed 1", UsageFault::Refused),
-        ("check T", UsageFault::Refused),
-        ("check T C D", UsageFault::Refused),
-        ("check T C --seed 1", UsageFault::Refused),
-    ] {
-        let fault = WordsFault::Usage(fault);
-        assert_eq!(rt; read(rt.alloc(), line)?.err(), Some(fault), "{line}");
-    }
-    let none = read_words(rt.alloc(), &[]).err();
-    assert_eq!(rt; none, Some(WordsFault::Usage(UsageFault::NoCommand)));
-    Ok(())
-}
-
-#[test]
-fn refuses_values(rt: HostRuntime) -> Result<(), Fail> {
-    for (line, option) in [
-        ("central A --seed 18446744073709551616", Opt::Seed),
-        ("central A --seed 000000000000000000001", Opt::Seed),
-        ("central A --levels 17", Opt::Levels),
-        ("central A --rows 2", Opt::Rows),
-        ("central A --rows 2 --levels 17", Opt::Levels),
-        ("central A --width 24 --rows 2", Opt::Rows),
-        ("central A --width 4096", Opt::Width),
-        ("central A --heap 1025", Opt::Heap),
-        ("central A --heap +1", Opt::Heap),
-        ("central A --epoch=", Opt::Epoch),
-        ("central A --epoch ", Opt::Epoch),
-        ("central A --epoch 0", Opt::Epoch),
-        ("central A --epoch 4294967296", Opt::Epoch),
-        ("central A --heavy 0 --epoch 6O", Opt::Epoch),
-        ("central A --heavy 0", Opt::Heavy),
-        ("central A --heavy 1001", Opt::Heavy),
-    ] {
-        let fault = WordsFault::Usage(UsageFault::Value(option));
-        assert_eq!(rt; read(rt.alloc(), line)?.err(), Some(fault), "{line}");
-    }
-    Ok(())
-}
 
 #[test]
 fn takes_words(rt: HostRuntime) -> Result<(), Fail> {
@@ -96,6 +33,21 @@ fn takes_two_names(rt: HostRuntime) -> Result<(), Fail> {
         assert_eq!(rt; words.names.len(), 2, "{line}");
         assert_eq!(rt; words.names[0].as_str(), topology, "{line}");
         assert_eq!(rt; words.names[1].as_str(), tree, "{line}");
+    }
+    Ok(())
+}
+
+#[test]
+fn takes_weights(rt: HostRuntime) -> Result<(), Fail> {
+    for (line, bytes) in [
+        ("central A", false),
+        ("central A --weight packets", false),
+        ("central --weight=bytes A", true),
+        ("central A --weight bytes --heap 1", true),
+        ("total A", false),
+    ] {
+        let words = read(rt.alloc(), line)?.ok().expect(&rt, line);
+        assert_eq!(rt; words.bytes, bytes, "{line}");
     }
     Ok(())
 }
@@ -147,6 +99,7 @@ fn names_options(rt: HostRuntime) {
         (Opt::Rows, "--rows"),
         (Opt::Width, "--width"),
         (Opt::Heap, "--heap"),
+        (Opt::Weight, "--weight"),
         (Opt::Epoch, "--epoch"),
         (Opt::Heavy, "--heavy"),
     ];

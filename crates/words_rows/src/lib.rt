@@ -1,0 +1,12 @@
+//! Rows of words worked by hand: what they ask for, and why they are refused.
+//!
+//! - `lines`: words from a line
+//! - `taken`, `refused`: what `read_words` of `mon_words` answers
+#![tactic(auto)]
+
+#[cfg(test)]
+mod lines;
+#[cfg(test)]
+mod refused;
+#[cfg(test)]
+mod taken;
