@@ -2,7 +2,7 @@
 
 The stream is the block function of RFC 8439 with a 64-bit block counter, at stream 0, under the seed in
 eight little-endian bytes and 24 zero bytes. Running the file first checks the block function against the
-RFC's own vector (section 2.3.2), and then prints the rows of the table in the test of hash_family.
+RFC's own vector (section 2.3.2), and then prints the rows of the tables in the tests of hash_family.
 """
 
 import struct
@@ -13,6 +13,7 @@ MASK = 0xFFFFFFFF
 KEY_V4 = [4, 0x0A000001, 0, 0, 0, 0x0A010002, 0, 0, 0, 1000 * 65536 + 53, 17]
 KEY_V6 = [6, 0x20010DB8, 0, 0, 1, 0x20010DB8, 0, 0, 2, 1000 * 65536 + 53, 17]
 SEEDS = [0, 1, 2**64 - 1]
+EVEN_SEEDS = [2, 4, 1000, 2**32, 2**63]
 
 
 def rotated(x, k):
@@ -88,6 +89,9 @@ def main():
             print(seed, name, "highest live level", top)
             for values in (samples, buckets, signs, lives):
                 print("   [" + ", ".join(text(v) for v in values) + "]")
+    for seed in EVEN_SEEDS:
+        places = [bucket(seed, 0, 0, 2048, KEY_V4), bucket(seed, 16, 6, 2048, KEY_V4)]
+        print(seed, "IPv4", places, text(sample(seed, 1, KEY_V4)))
 
 
 if __name__ == "__main__":

@@ -16,14 +16,15 @@ mark_text dropped = if dropped then codes "dropped" else codes "kept"
 -- the line of an epoch: its number, its packets, their weight, and whether a heap dropped a key
 unfoldable pub epoch_line : ℕ → ℕ → View → List ℕ
 epoch_line epoch packets view =
-    codes "epoch " ++ (decimal epoch ++ (codes " packets " ++ (decimal packets ++ (codes " weight " ++ (decimal view.weight
-    ++ (codes " heaps " ++ (mark_text view.dropped ++ codes "\n")))))))
+    codes "epoch " ++ (decimal epoch ++ (codes " packets " ++ (decimal packets
+    ++ (codes " weight " ++ (decimal view.weight ++ (codes " heaps " ++ (mark_text view.dropped ++ codes "\n")))))))
 
 -- the line of a level
 unfoldable pub level_line : ℕ → LevelCount → List ℕ
 level_line level count =
-    codes "level " ++ (decimal level ++ (codes " packets " ++ (decimal count.packets ++ (codes " weight " ++ (decimal count.weight
-    ++ (codes " keys " ++ (decimal count.keys ++ (codes " nonzero " ++ (decimal count.nonzero ++ codes "\n")))))))))
+    codes "level " ++ (decimal level ++ (codes " packets " ++ (decimal count.packets
+    ++ (codes " weight " ++ (decimal count.weight ++ (codes " keys " ++ (decimal count.keys
+    ++ (codes " nonzero " ++ (decimal count.nonzero ++ codes "\n")))))))))
 
 -- the lines of levels, from a number on
 unfoldable pub level_lines : ℕ → List LevelCount → List ℕ

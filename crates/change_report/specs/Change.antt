@@ -28,7 +28,8 @@ changed_keys seed per_mille before after =
 -- the line of a change: both epochs' numbers, and the sum of the changes
 unfoldable pub change_line : ℕ → ℤ → List ℕ
 change_line epoch total =
-    codes "change " ++ (decimal (epoch - 1) ++ (codes " " ++ (decimal epoch ++ (codes " total " ++ (signed_decimal total ++ codes "\n")))))
+    codes "change " ++ (decimal (epoch - 1) ++ (codes " " ++ (decimal epoch
+    ++ (codes " total " ++ (signed_decimal total ++ codes "\n")))))
 
 -- the line of a changed key with its change
 unfoldable pub changed_line : (List ℕ × ℤ) → List ℕ

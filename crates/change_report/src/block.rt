@@ -2,7 +2,8 @@
 ghost use Rattle.std.specs.Prelude.{◌≡◌, ◌≤◌, ◌++◌, ℤ, IfOk, string_bytes};
 ghost use Rattle.recursive_sum.specs.Sum.{recursive_sum};
 ghost use Rattle.recursive_sum.specs.declared.measure.G.TheVariants.{One, Value};
-ghost use Rattle.change_report.specs.Block.{block_text, cardinality_line, epoch_line, heavy_line, heavy_lines, level_line, level_lines, total_line};
+ghost use Rattle.change_report.specs.Block.{block_text, cardinality_line, epoch_line, heavy_line, heavy_lines};
+ghost use Rattle.change_report.specs.Block.{level_line, level_lines, total_line};
 
 use crate::LevelCount;
 use flow_keys::{FlowKey, key_text};
@@ -13,8 +14,8 @@ use sketch_merge::Merged;
 use std::alloc::{AllocError, Global};
 
 /// The lines of an epoch of this number and with so many packets: a line of each level from 0 on, the number of keys
-/// and the weight by the recursive sum, and each key of at least `heavy` (0 to 1,000) thousandths of the weight. The
-/// family is that of the sketches. It takes memory for the text and for the keys of level 0.
+/// and the weight by the recursive sum, and each key of at least `per_mille` (0 to 1,000) thousandths of the weight.
+/// The family is that of the sketches. It takes memory for the text and for the keys of level 0.
 pub fn epoch_text(
     alloc: Global,
     family: &Family,
@@ -22,12 +23,13 @@ pub fn epoch_text(
     packets: u32,
     merged: &Merged,
     levels: &[LevelCount],
-    heavy: u32,
+    per_mille: u32,
 ) -> Result<String, Memory>
-    requires { heavy ≤ 1000 }
-    ensures text { IfOk result (λ text. string_bytes text ≡ block_text family.now epoch packets merged.now levels.now heavy) }
+    requires { per_mille ≤ 1000 }
+    ensures text { IfOk result (λ text.
+        string_bytes text ≡ block_text family.now epoch packets merged.now levels.now per_mille) }
 {
-    let keys = recursive_sum::heavy(alloc, family, merged, heavy)?;
+    let keys = recursive_sum::heavy(alloc, family, merged, per_mille)?;
     match block(alloc, family, epoch, packets, merged, levels, &keys) {
         Ok(text) => Ok(text),
         Err(_) => Err(Memory),
@@ -44,7 +46,8 @@ fn block(
     levels: &[LevelCount],
     keys: &[(FlowKey, i128)],
 ) -> Result<String, AllocError>
-    ensures text { IfOk result (λ text. string_bytes text ≡ epoch_line epoch packets merged.now ++ (level_lines 0 levels.now
+    ensures text { IfOk result (λ text. string_bytes text
+        ≡ epoch_line epoch packets merged.now ++ (level_lines 0 levels.now
         ++ (cardinality_line (recursive_sum family.now One merged.now)
         ++ (total_line (recursive_sum family.now Value merged.now) ++ heavy_lines keys.now)))) }
 {
@@ -52,8 +55,8 @@ fn block(
     let levels = levels_text(alloc, levels)?;
     let cardinality = cardinality_text(alloc, g_sum(family, merged, G::One))?;
     let total = total_text(alloc, g_sum(family, merged, G::Value))?;
-    let heavy = heavy_text(alloc, keys)?;
-    format!(in alloc; "{head}{levels}{cardinality}{total}{heavy}")
+    let keys = keys_text(alloc, keys)?;
+    format!(in alloc; "{head}{levels}{cardinality}{total}{keys}")
 }
 
 #[tactic(auto, unfolding(crate::specs::Block::epoch_line, crate::specs::Block::mark_text))]
@@ -107,19 +110,19 @@ fn total_text(alloc: Global, sum: i128) -> Result<String, AllocError>
 }
 
 // The lines of the heavy keys, in their order.
-fn heavy_text(alloc: Global, keys: &[(FlowKey, i128)]) -> Result<String, AllocError>
+fn keys_text(alloc: Global, keys: &[(FlowKey, i128)]) -> Result<String, AllocError>
     ensures { IfOk result (λ text. string_bytes text ≡ heavy_lines keys.now) }
 {
     let mut text = String::new(alloc);
     for pair in keys {
-        let line = heavy_key_text(alloc, &pair.0, pair.1)?;
+        let line = key_line(alloc, &pair.0, pair.1)?;
         text.push_str(&line)?;
     }
     Ok(text)
 }
 
 #[tactic(auto, unfolding(crate::specs::Block::heavy_line))]
-fn heavy_key_text(alloc: Global, key: &FlowKey, weight: i128) -> Result<String, AllocError>
+fn key_line(alloc: Global, key: &FlowKey, weight: i128) -> Result<String, AllocError>
     ensures { IfOk result (λ text. string_bytes text ≡ heavy_line (key.now, weight)) }
 {
     let text = key_text(key);

@@ -28,7 +28,8 @@ pub fn change_text(
     requires few { HaveUpTo 1048576 after.now.keys }
     requires before_few { HaveUpTo 1048576 before.now.keys }
     requires per_mille { per_mille ≤ 1000 }
-    ensures text { IfOk result (λ text. string_bytes text ≡ change_lines family.now epoch before.now after.now per_mille) }
+    ensures text { IfOk result (λ text.
+        string_bytes text ≡ change_lines family.now epoch before.now after.now per_mille) }
 {
     let (total, keys) = change(alloc, family, before, after, per_mille)?;
     match lines(alloc, epoch, total, &keys) {

@@ -110,7 +110,12 @@ fn lines_of_an_epoch(rt: HostRuntime) {
         &rt,
         "ample memory",
     );
-    let expected =
-        "epoch 7 packets 3 weight 3 heaps kept\nlevel 0 packets 3 weight 3 keys 1 nonzero 5\ncardinality 1\ntotal 3\nheavy 10.0.0.1 1000 10.1.0.2 53 17 weight 3\n";
+    let expected = "\
+epoch 7 packets 3 weight 3 heaps kept
+level 0 packets 3 weight 3 keys 1 nonzero 5
+cardinality 1
+total 3
+heavy 10.0.0.1 1000 10.1.0.2 53 17 weight 3
+";
     assert_eq!(rt; text.as_str(), expected);
 }

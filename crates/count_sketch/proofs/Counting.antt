@@ -1,5 +1,5 @@
 -- Counts over a list of integers, and the first member that passes a test.
-use Rattle.std.proofs.Common.{◌≡◌, ℕ, ◌+◌, ◌≤◌, ◌<◌, zero, suc, Bool, true, false, cond, List, [], ◌∷◌, length, get_or, Option, Some, ℤ, ◌<ℤ◌, int_lt, count_by, refl, ◌∙◌, ap, arith}
+use Rattle.std.proofs.Common.{◌≡◌, ℕ, ◌+◌, ◌≤◌, ◌<◌, zero, suc, Bool, true, false, cond, List, [], ◌∷◌, length, get_or, Option, Some, ℤ, ◌<ℤ◌, int_lt, int_le, count_by, refl, ◌∙◌, ap, arith}
 use Rattle.std.specs.List.{All, find}
 use Rattle.std.specs.Prelude.{unwrap_or}
 use Rattle.std.proofs.lemmas.Bool.{cond-true, cond-false, cond_both}
@@ -30,6 +30,19 @@ both_sides x y less (z ∷ xs) =
     let below = sum_by-cons (λ w. cond {A = ℕ} (int_lt w y) 1 0) z xs in
     let above = sum_by-cons (λ w. cond {A = ℕ} (int_lt x w) 1 0) z xs in
     omega (arith, rest, here, below, above)
+
+-- where each member passes one of two tests, the counts are together those of all
+pub both_counts : {X : Type 0} (p q : X → Bool) → ((x : X) → cond {A = ℕ} (p x) 1 0 + cond {A = ℕ} (q x) 1 0 ≡ 1) → (xs : List X) → count_by p xs + count_by q xs ≡ length xs
+both_counts p q each [] = refl
+both_counts p q each (x ∷ xs) =
+    let rest = both_counts p q each xs in
+    let first = sum_by-cons (λ y. cond {A = ℕ} (p y) 1 0) x xs in
+    let second = sum_by-cons (λ y. cond {A = ℕ} (q y) 1 0) x xs in
+    omega (arith, rest, each x, first, second)
+
+-- a number is below another, or the other is at most it
+pub one_order : (x y : ℤ) → cond {A = ℕ} (int_lt x y) 1 0 + cond {A = ℕ} (int_le y x) 1 0 ≡ 1
+one_order x y = grind (arith, ints, nat_tests)
 
 -- a member was found that passes
 pub record Found {X : Type 0} (p : X → Bool) (xs : List X) : Type 0 where

@@ -1,5 +1,5 @@
 -- The middle one of a list with an odd number of members.
-use Rattle.std.proofs.Common.{◌≡◌, ℕ, ◌+◌, ◌*◌, ◌≤◌, ◌<◌, Bool, true, false, cond, ltb, List, length, get_or, take, drop, Option, ℤ, pos, ◌<ℤ◌, int_lt, unsigned_abs, count_by, refl, sym, ◌∙◌, ap, arith, length-take, length-drop, Less, Equal, Greater}
+use Rattle.std.proofs.Common.{◌≡◌, ℕ, ◌+◌, ◌*◌, ◌≤◌, ◌<◌, Bool, true, false, cond, ltb, List, length, get_or, take, drop, Option, ℤ, pos, ◌<ℤ◌, int_lt, int_le, unsigned_abs, count_by, refl, sym, ◌∙◌, ap, arith, length-take, length-drop, Less, Equal, Greater}
 use Rattle.std.specs.Prelude.{unwrap_or}
 use Rattle.std.specs.List.{Contains}
 use Rattle.std.specs.List.Sorted.{IsPermutation, IsSorted}
@@ -12,8 +12,8 @@ use Rattle.std.proofs.lemmas.List.Elements.{Contains-get_or}
 use Rattle.std.proofs.lemmas.List.Sorted.{ranks_by, sorted_far, sum_by-IsPermutation, length_permutation, Contains-permutation, IsPermutation-sym}
 use Rattle.std.proofs.lemmas.List.Sums.{sum_by-take-drop, count_by-le-length}
 use Rattle.count_sketch.specs.Counters.{AllUpTo}
-use Rattle.count_sketch.specs.Estimate.{is_middle, middle}
-use Rattle.count_sketch.proofs.Counting.{count_none, both_sides, found, All-find}
+use Rattle.count_sketch.specs.Estimate.{IsMiddle, is_middle, middle}
+use Rattle.count_sketch.proofs.Counting.{both_counts, both_sides, count_none, one_order, found, All-find}
 
 is_lt-cond : (b c : Bool) → is_lt (cond b Less (cond c Greater Equal)) ≡ b
 is_lt-cond true c = refl
@@ -83,6 +83,25 @@ middle_is xs m contains at_m =
 pub middle-sorted : (xs ys : List ℤ) (half : ℕ) (d : ℤ) → length xs ≡ 2 * half + 1 → IsPermutation xs ys → IsSorted int_cmp ys → get_or ys half d ≡ middle xs
 middle-sorted xs ys half d odd moved sorted =
     middle_is xs (get_or ys half d)
+    (Contains-permutation ys xs _ (IsPermutation-sym xs ys moved) (Contains-get_or ys half d (omega (arith, length_permutation xs ys moved))))
+    (middle_at_half xs ys half d odd moved sorted)
+
+-- and more than half of the numbers are at most it, and more than half at least it
+is_middle-parts : (xs : List ℤ) (m : ℤ) → Contains xs m → is_middle xs m ≡ true → IsMiddle xs m
+unfolding is_middle
+is_middle-parts xs m contains at_m =
+    let parts = and_parts (ltb (2 * count_by (λ y. int_lt y m) xs) (length xs)) (ltb (2 * count_by (λ y. int_lt m y) xs) (length xs)) at_m in
+    let below : 2 * count_by (λ y. int_lt y m) xs < length xs = ltb-true _ _ parts.0 in
+    let above : 2 * count_by (λ y. int_lt m y) xs < length xs = ltb-true _ _ parts.1 in
+    record {
+      one = contains;
+      low = omega (arith, above, both_counts (λ y. int_lt m y) (λ y. int_le y m) (λ y. one_order m y) xs);
+      high = omega (arith, below, both_counts (λ y. int_lt y m) (λ y. int_le m y) (λ y. one_order y m) xs);
+    }
+
+pub IsMiddle-sorted : (xs ys : List ℤ) (half : ℕ) (d : ℤ) → length xs ≡ 2 * half + 1 → IsPermutation xs ys → IsSorted int_cmp ys → IsMiddle xs (get_or ys half d)
+IsMiddle-sorted xs ys half d odd moved sorted =
+    is_middle-parts xs (get_or ys half d)
     (Contains-permutation ys xs _ (IsPermutation-sym xs ys moved) (Contains-get_or ys half d (omega (arith, length_permutation xs ys moved))))
     (middle_at_half xs ys half d odd moved sorted)
 

@@ -1,5 +1,6 @@
 -- Counters, as signed sums over a list of items.
-use Rattle.std.specs.Prelude.{ℕ, ◌*◌, ◌/◌, ◌%◌, ◌≤◌, ◌==◌, List, map, fold, All, ℤ, pos, ◌+ℤ◌, ◌-ℤ◌, ◌*ℤ◌, unsigned_abs, if◌then◌else◌}
+use Rattle.std.specs.Prelude.{ℕ, ◌*◌, ◌/◌, ◌%◌, ◌≤◌, ◌==◌, if◌then◌else◌, List, map, fold, All}
+use Rattle.std.specs.Prelude.{ℤ, pos, ◌+ℤ◌, ◌-ℤ◌, ◌*ℤ◌, unsigned_abs}
 use Rattle.std.specs.List.{range_with_len}
 use Rattle.std.specs.Simd.Lanes.{zip2}
 use Rattle.hash_family.specs.Hash.{bucket, sign}

@@ -1,5 +1,6 @@
 -- The estimate of a key, as the middle one of what its rows say.
-use Rattle.std.specs.Prelude.{ℕ, ◌+◌, ◌*◌, ◌&&◌, nat_lt, Bool, List, length, map, find, count_by, slice_index_or, unwrap_or, ℤ, pos, ◌*ℤ◌, int_lt}
+use Rattle.std.specs.Prelude.{ℕ, ◌+◌, ◌*◌, ◌≤◌, ◌&&◌, nat_lt, Bool, List, length, map, find, count_by, Contains}
+use Rattle.std.specs.Prelude.{slice_index_or, unwrap_or, ℤ, pos, ◌*ℤ◌, int_lt, int_le}
 use Rattle.std.specs.List.{range_with_len}
 use Rattle.hash_family.specs.Hash.{bucket, sign}
 
@@ -7,6 +8,17 @@ use Rattle.hash_family.specs.Hash.{bucket, sign}
 unfoldable pub row_estimate : ℕ → ℕ → ℕ → List ℤ → List ℕ → ℕ → ℤ
 row_estimate seed level width counters key row =
     sign seed level row key *ℤ slice_index_or counters (row * width + bucket seed level row width key) (pos 0)
+
+-- what each row says of a key
+abbrev pub row_estimates : ℕ → ℕ → ℕ → ℕ → List ℤ → List ℕ → List ℤ
+row_estimates seed level rows width counters key =
+    map (row_estimate seed level width counters key) (range_with_len 0 rows)
+
+-- one of the numbers, of an odd number of them: more than half are at most it, and more than half at least it
+pub record IsMiddle (xs : List ℤ) (x : ℤ) : Type 0 where
+  pub one : Contains xs x
+  pub low : length xs + 1 ≤ 2 * count_by (λ y. int_le y x) xs
+  pub high : length xs + 1 ≤ 2 * count_by (λ y. int_le x y) xs
 
 -- fewer than half of the numbers are below x, and fewer than half above
 unfoldable pub is_middle : List ℤ → ℤ → Bool

@@ -1,5 +1,6 @@
 -- An item in one row.
-use Rattle.std.specs.Prelude.{◌≡◌, ℕ, ◌+◌, ◌*◌, ◌<◌, ◌≤◌, List, length, slice_index_or, slice_set, ℤ, pos, ◌+ℤ◌, ◌*ℤ◌}
+use Rattle.std.specs.Prelude.{◌≡◌, ℕ, ◌+◌, ◌*◌, ◌<◌, ◌≤◌, List, length, slice_index_or, slice_set}
+use Rattle.std.specs.Prelude.{ℤ, pos, ◌+ℤ◌, ◌*ℤ◌}
 use Rattle.hash_family.specs.Hash.{bucket, sign}
 use Rattle.count_sketch.specs.Counters.{Item}
 
@@ -11,4 +12,7 @@ item_place seed level row width key = row * width + bucket seed level row width 
 pub record AddsToRow (seed level width : ℕ) (item : Item) (old new : List ℤ) (row : ℕ) : Type 0 where
   pub within : bucket seed level row width item.key < width
   pub fits : row * width + width ≤ length old
-  pub written : new ≡ slice_set old (item_place seed level row width item.key) (slice_index_or old (item_place seed level row width item.key) (pos 0) +ℤ (sign seed level row item.key *ℤ pos item.weight))
+  pub written :
+      new ≡ slice_set old (item_place seed level row width item.key)
+      (slice_index_or old (item_place seed level row width item.key) (pos 0)
+      +ℤ (sign seed level row item.key *ℤ pos item.weight))

@@ -1,9 +1,8 @@
 //! What counters say of a key.
-ghost use Rattle.std.specs.Prelude.{◌≡◌, ◌≤◌, ◌<◌, ◌+◌, ◌*◌, ◌^◌, ℕ, length, map, take, IsTrue, unsigned_abs, ◌-◌};
-ghost use Rattle.std.specs.List.{range_with_len};
+ghost use Rattle.std.specs.Prelude.{◌≡◌, ◌≤◌, ◌<◌, ◌+◌, ◌*◌, ◌^◌, ℕ, length, take, IsTrue, unsigned_abs, ◌-◌};
 ghost use Rattle.hash_family.specs.Limits.{is_rows, is_width};
 ghost use Rattle.count_sketch.specs.Counters.{AllUpTo};
-ghost use Rattle.count_sketch.specs.Estimate.{row_estimate, estimate};
+ghost use Rattle.count_sketch.specs.Estimate.{IsMiddle, row_estimate, row_estimates, estimate};
 
 use crate::middle::middle_of;
 use crate::update::{place_of, sign_of, signed};
@@ -27,6 +26,7 @@ pub fn estimate_in(
     requires shape { length counters.now ≡ rows * width }
     requires none_is_least { AllUpTo (2 ^ 63 - 1) counters.now }
     ensures value { result ≡ estimate family.now level rows width counters.now key.now }
+    ensures middle { IsMiddle (row_estimates family.now level rows width counters.now key.now) result }
     ensures bound { (n : ℕ) → AllUpTo n counters.now → unsigned_abs result ≤ n }
 {
     let mut found = [0; 7];
@@ -49,8 +49,7 @@ fn fill(
     requires width { IsTrue (is_width width) }
     requires shape { length counters.now ≡ rows * width }
     requires none_is_least { AllUpTo (2 ^ 63 - 1) counters.now }
-    ensures { take rows found.new
-        ≡ map (row_estimate family.now level width counters.now key.now) (range_with_len 0 rows) }
+    ensures { take rows found.new ≡ row_estimates family.now level rows width counters.now key.now }
 {
     for row in 0..rows {
         found[usize::from(row)] = row_says(counters, row, width, family, level, key);

@@ -1,8 +1,9 @@
 //! The counters of one level.
-ghost use Rattle.std.specs.Prelude.{◌≡◌, ◌≤◌, ◌+◌, ◌*◌, ℕ, List, [], ◌∷◌, ◌++◌, length, replicate, IfOk, IsTrue, pos, unsigned_abs, ◌^◌, ◌-◌};
+ghost use Rattle.std.specs.Prelude.{◌≡◌, ◌≤◌, ◌+◌, ◌*◌, ◌^◌, ◌-◌, ℕ, List, [], ◌∷◌, ◌++◌, length, replicate};
+ghost use Rattle.std.specs.Prelude.{IfOk, IsTrue, pos, unsigned_abs};
 ghost use Rattle.hash_family.specs.Limits.{is_rows, is_width};
 ghost use Rattle.count_sketch.specs.Counters.{Item, Grid, plus, minus, counters_of, grid_of, AllUpTo};
-ghost use Rattle.count_sketch.specs.Estimate.{estimate};
+ghost use Rattle.count_sketch.specs.Estimate.{IsMiddle, row_estimates, estimate};
 
 use crate::estimate::estimate_in;
 use crate::places::{add_places, sub_places};
@@ -100,6 +101,8 @@ impl Sketch {
         ensures bound { (n : ℕ) → AllUpTo n self.old.counters → AllUpTo (n + weight) self.new.counters }
         ensures value { result
             ≡ estimate family.now level self.new.rows self.new.width self.new.counters key.now }
+        ensures middle { IsMiddle
+            (row_estimates family.now level self.new.rows self.new.width self.new.counters key.now) result }
         ensures result_bound { (n : ℕ) → AllUpTo n self.new.counters → unsigned_abs result ≤ n }
     {
         update_and_estimate_in(
@@ -113,11 +116,13 @@ impl Sketch {
         )
     }
 
-    /// The middle of the rows' counters of a key, each with the key's sign.
+    /// The estimate of a key's weight: the middle of the rows' counters of the key, each with the key's sign.
     pub fn estimate(&self, family: &Family, level: u8, key: &FlowKey) -> i64
         requires level { level ≤ 16 }
         ensures value { result
             ≡ estimate family.now level self.now.rows self.now.width self.now.counters key.now }
+        ensures middle { IsMiddle
+            (row_estimates family.now level self.now.rows self.now.width self.now.counters key.now) result }
         ensures bound { (n : ℕ) → AllUpTo n self.now.counters → unsigned_abs result ≤ n }
     {
         estimate_in(&self.counters, self.rows, self.width, family, level, key)
@@ -132,29 +137,40 @@ impl Sketch {
         &self.counters
     }
 
-    /// Adds the counters of a sketch of the same shape. All absolute values are below 2^62.
+    /// Adds the counters of a sketch of the same shape. All absolute values are below 2^62. The counters of two
+    /// lists of items become those of the lists joined.
     pub fn add(&mut self, other: &Sketch)
         requires rows { self.old.rows ≡ other.now.rows }
         requires width { self.old.width ≡ other.now.width }
         requires small { AllUpTo (2 ^ 62 - 1) self.old.counters }
         requires other_small { AllUpTo (2 ^ 62 - 1) other.now.counters }
         ensures next { self.new ≡ record self.old { counters = plus self.old.counters other.now.counters } }
+        ensures list { (seed level : ℕ) (xs ys : List Item)
+            → self.old ≡ grid_of seed level self.old.rows self.old.width xs
+            → other.now ≡ grid_of seed level self.old.rows self.old.width ys
+            → self.new ≡ grid_of seed level self.old.rows self.old.width (xs ++ ys) }
     {
         add_places(&mut self.counters, &other.counters);
     }
 
-    /// Takes away the counters of a sketch of the same shape. All absolute values are below 2^62.
+    /// Takes away the counters of a sketch of the same shape. All absolute values are below 2^62. Of the counters
+    /// of two lists joined, and those of the second, those of the first are left.
     pub fn sub(&mut self, other: &Sketch)
         requires rows { self.old.rows ≡ other.now.rows }
         requires width { self.old.width ≡ other.now.width }
         requires small { AllUpTo (2 ^ 62 - 1) self.old.counters }
         requires other_small { AllUpTo (2 ^ 62 - 1) other.now.counters }
         ensures next { self.new ≡ record self.old { counters = minus self.old.counters other.now.counters } }
+        ensures list { (seed level : ℕ) (xs ys : List Item)
+            → self.old ≡ grid_of seed level self.old.rows self.old.width (xs ++ ys)
+            → other.now ≡ grid_of seed level self.old.rows self.old.width ys
+            → self.new ≡ grid_of seed level self.old.rows self.old.width xs }
     {
         sub_places(&mut self.counters, &other.counters);
     }
 }
 
+// So many counters, all 0.
 fn zeros(alloc: Global, number: usize) -> Result<Vec<i64>, Memory>
     ensures { IfOk result (λ counters. counters.items ≡ replicate number (pos 0)) }
 {

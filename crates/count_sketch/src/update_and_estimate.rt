@@ -1,9 +1,8 @@
 //! An item added to the counters of a sketch, with its key's estimate after that.
-ghost use Rattle.std.specs.Prelude.{◌≡◌, ◌≤◌, ◌*◌, [], ◌∷◌, length, map, take, IsTrue, ◌^◌};
-ghost use Rattle.std.specs.List.{range_with_len};
+ghost use Rattle.std.specs.Prelude.{◌≡◌, ◌≤◌, ◌*◌, [], ◌∷◌, length, take, IsTrue, ◌^◌};
 ghost use Rattle.hash_family.specs.Limits.{is_rows, is_width};
 ghost use Rattle.count_sketch.specs.Counters.{plus, counters_of, AllUpTo};
-ghost use Rattle.count_sketch.specs.Estimate.{row_estimate, estimate};
+ghost use Rattle.count_sketch.specs.Estimate.{IsMiddle, row_estimates, estimate};
 
 use crate::middle::middle_of;
 use crate::update::update_row;
@@ -28,6 +27,7 @@ pub(crate) fn update_and_estimate_in(
     ensures next { counters.new ≡ plus counters.old
         (counters_of family.now level rows width (record { key = key.now; weight = weight } ∷ [])) }
     ensures value { result ≡ estimate family.now level rows width counters.new key.now }
+    ensures middle { IsMiddle (row_estimates family.now level rows width counters.new key.now) result }
 {
     let mut found = [0; 7];
     update_and_fill(
@@ -54,8 +54,7 @@ fn update_and_fill(
     requires small { AllUpTo (2 ^ 61) counters.old }
     ensures next { counters.new ≡ plus counters.old
         (counters_of family.now level rows width (record { key = key.now; weight = weight } ∷ [])) }
-    ensures found { take rows found.new
-        ≡ map (row_estimate family.now level width counters.new key.now) (range_with_len 0 rows) }
+    ensures found { take rows found.new ≡ row_estimates family.now level rows width counters.new key.now }
 {
     for row in 0..rows {
         let says = update_row(counters, row, width, family, level, key, weight);

@@ -11,6 +11,10 @@ is_width width =
     width == 16 || width == 32 || width == 64 || width == 128
     || width == 256 || width == 512 || width == 1024 || width == 2048
 
+-- the most counters of a level: 7 rows of 2048
+abbrev pub most_counters : ℕ
+most_counters = 14336
+
 -- the numbers of a sketch: the highest level, rows, width, and the keys in a level's heap
 abbrev pub are_within : ℕ → ℕ → ℕ → ℕ → Bool
 are_within levels rows width heap =

@@ -31,7 +31,7 @@ impl Model for Family {
 impl Family {
     /// The functions of this seed. No other call takes memory.
     pub fn new(alloc: Global, seed: u64) -> Result<Family, Memory>
-        ensures { IfOk result (λ family. family ≡ seed) }
+        ensures value { IfOk result (λ family. family ≡ seed) }
     {
         let coefficients = coefficients_of(alloc, seed)?;
         Ok(Family { seed, coefficients })
@@ -42,7 +42,7 @@ impl Family {
     pub fn sample(&self, level: u8, key: &FlowKey) -> bool
         requires low { 1 ≤ level }
         requires high { level ≤ 16 }
-        ensures { result ≡ is_sampled self.now level key.now }
+        ensures value { result ≡ is_sampled self.now level key.now }
     {
         self.samples(level, &key.words())
     }
@@ -68,7 +68,7 @@ impl Family {
     pub fn sign(&self, level: u8, row: u8, key: &FlowKey) -> i64
         requires level { level ≤ 16 }
         requires row { row ≤ 6 }
-        ensures { result ≡ sign self.now level row key.now }
+        ensures value { result ≡ sign self.now level row key.now }
     {
         let function = 17 + 2 * (7 * usize::from(level) + usize::from(row));
         if self.hash(function, &key.words()) % 2 == 1 {
@@ -81,7 +81,7 @@ impl Family {
     /// Whether each level from 1 up to this one (0 to 16) samples the key.
     pub fn live(&self, level: u8, key: &FlowKey) -> bool
         requires { level ≤ 16 }
-        ensures { result ≡ is_live self.now level key.now }
+        ensures value { result ≡ is_live self.now level key.now }
     {
         let words = key.words();
         for below in 0..level {

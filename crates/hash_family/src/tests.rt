@@ -134,6 +134,24 @@ fn values_from_outside(rt: HostRuntime) {
 }
 
 #[test]
+fn even_seeds(rt: HostRuntime) {
+    let table = [
+        (2, 1383, 11, true),
+        (4, 10, 1680, false),
+        (1000, 1862, 888, false),
+        (1 << 32, 1355, 1611, true),
+        (1 << 63, 1444, 1709, false),
+    ];
+    for (seed, first, last, sample) in table {
+        let family = Family::new(rt.alloc(), seed).expect(&rt, "ample memory");
+        let key = FlowKey::from_words(V4).expect(&rt, "a valid key");
+        assert_eq!(rt; family.bucket(0, 0, 2048, &key), first, "seed {seed}");
+        assert_eq!(rt; family.bucket(16, 6, 2048, &key), last, "seed {seed}");
+        assert_eq!(rt; family.sample(1, &key), sample, "seed {seed}");
+    }
+}
+
+#[test]
 fn limits(rt: HostRuntime) {
     let cases = [
         (0, 1, 16, 1, true),

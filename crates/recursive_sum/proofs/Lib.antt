@@ -1,3 +1,4 @@
+pub mod Clipped
 pub mod Descent
 pub mod Great
 pub mod Ranks

@@ -1,5 +1,6 @@
 -- The keys with the greatest absolute numbers.
-use Rattle.std.specs.Prelude.{ℕ, ◌*◌, ◌&&◌, nat_lt, Bool, List, [], fold, filter, map, ℤ, pos, ◌*ℤ◌, int_le, int_lt, unsigned_abs, if◌then◌else◌}
+use Rattle.std.specs.Prelude.{ℕ, ◌*◌, ◌&&◌, nat_lt, Bool, if◌then◌else◌, List, [], fold, filter, map, Contains}
+use Rattle.std.specs.Prelude.{ℤ, pos, ◌*ℤ◌, ◌<ℤ◌, int_le, int_lt, unsigned_abs}
 use Rattle.std.specs.BTreeSet.{insert_key}
 use Rattle.std.specs.Cmp.Lexicographic.{slice_cmp}
 use Rattle.std.specs.List.{IsDistinct}
@@ -44,3 +45,8 @@ heavy_pairs seed view = map (λ key. (key, clipped (estimate_at seed view 0 key)
 -- the heavy keys: those of at least so many thousandths of the weight
 abbrev pub heavy_keys : ℕ → ℕ → View → List (List ℕ × ℤ)
 heavy_keys seed per_mille view = selection per_mille (pos view.weight) (heavy_pairs seed view)
+
+-- a key that level 0 names, with a number above 0
+pub record IsHeavy (view : View) (pair : List ℕ × ℤ) : Type 0 where
+  pub named : Contains (keys_at view 0) pair.0
+  pub above : pos 0 <ℤ pair.1

@@ -1,5 +1,6 @@
 -- The recursive sum of UnivMon over the levels of merged sketches.
-use Rattle.std.specs.Prelude.{◌≡◌, ℕ, suc, zero, ◌+◌, ◌≤◌, List, filter, Contains, ℤ, pos, negsuc, ◌+ℤ◌, ◌*ℤ◌, int_lt, unsigned_abs, if◌then◌else◌}
+use Rattle.std.specs.Prelude.{◌≡◌, ℕ, suc, zero, ◌+◌, ◌≤◌, if◌then◌else◌, List, filter, Contains}
+use Rattle.std.specs.Prelude.{ℤ, pos, negsuc, ◌+ℤ◌, ◌*ℤ◌, int_lt, unsigned_abs}
 use Rattle.hash_family.specs.Hash.{is_live, is_sampled}
 use Rattle.count_sketch.specs.Counters.{int_sum_by}
 use Rattle.count_sketch.specs.Estimate.{estimate}
@@ -44,5 +45,7 @@ recursive_sum seed g view = sum_at seed g view 0 view.setting.levels
 -- each level names exactly the keys of level 0 that are live there, and at each such level the estimate of a key is one
 -- number of its own
 pub record IsClear (seed : ℕ) (view : View) (number : List ℕ → ℤ) : Type 0 where
-  pub live : (level : ℕ) → level ≤ view.setting.levels → keys_at view level ≡ filter (λ key. is_live seed level key) (keys_at view 0)
-  pub one : (level : ℕ) (key : List ℕ) → level ≤ view.setting.levels → Contains (keys_at view level) key → estimate_at seed view level key ≡ number key
+  pub live : (level : ℕ) → level ≤ view.setting.levels
+      → keys_at view level ≡ filter (λ key. is_live seed level key) (keys_at view 0)
+  pub one : (level : ℕ) (key : List ℕ) → level ≤ view.setting.levels → Contains (keys_at view level) key
+      → estimate_at seed view level key ≡ number key

@@ -1,6 +1,6 @@
 //! The keys with the greatest estimates.
-ghost use Rattle.std.specs.Prelude.{◌≡◌, ◌≤◌, ℤ, IfOk, if◌then◌else◌, int_lt, pos};
-ghost use Rattle.recursive_sum.specs.Select.{HaveOwnKeys, clipped, heavy_keys, heavy_pairs};
+ghost use Rattle.std.specs.Prelude.{◌≡◌, ◌≤◌, ℤ, All, IfOk, if◌then◌else◌, int_lt, pos};
+ghost use Rattle.recursive_sum.specs.Select.{HaveOwnKeys, IsHeavy, clipped, heavy_keys, heavy_pairs};
 ghost use Rattle.recursive_sum.specs.Sum.{estimate_at};
 
 use crate::ranking::select;
@@ -21,6 +21,7 @@ pub fn heavy(
 ) -> Result<Vec<(FlowKey, i128)>, Memory>
     requires { per_mille ≤ 1000 }
     ensures value { IfOk result (λ pairs. pairs.items ≡ heavy_keys family.now per_mille merged.now) }
+    ensures each { IfOk result (λ pairs. All (IsHeavy merged.now) pairs.items) }
 {
     let pairs = clipped_estimates(alloc, family, merged)?;
     select(alloc, pairs, per_mille, i128::from(merged.weight()))

@@ -21,7 +21,8 @@ pub fn select(
     requires total { unsigned_abs total ≤ 2 ^ 100 }
     requires per_mille { per_mille ≤ 1000 }
     ensures value { IfOk result (λ selected. selected.items ≡ selection per_mille total pairs.items) }
-    ensures kept { IfOk result (λ selected. IsPermutation (filter (is_selected per_mille total) pairs.items) selected.items) }
+    ensures kept { IfOk result (λ selected.
+        IsPermutation (filter (is_selected per_mille total) pairs.items) selected.items) }
     ensures order { IfOk result (λ selected. IsStrictlySortedBy by_rank selected.items) }
 {
     keep_great(&mut pairs, per_mille, total);

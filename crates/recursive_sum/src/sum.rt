@@ -1,5 +1,6 @@
 //! The recursive sum over the levels.
-ghost use Rattle.std.specs.Prelude.{◌≡◌, ◌<◌, ◌≤◌, ◌+◌, ◌*◌, ◌^◌, ℕ, ℤ, pos, negsuc, ◌+ℤ◌, ◌*ℤ◌, length, unsigned_abs, if◌then◌else◌};
+ghost use Rattle.std.specs.Prelude.{◌≡◌, ◌<◌, ◌≤◌, ◌+◌, ◌*◌, ◌^◌, ℕ, length, if◌then◌else◌};
+ghost use Rattle.std.specs.Prelude.{ℤ, pos, negsuc, ◌+ℤ◌, ◌*ℤ◌, unsigned_abs};
 ghost use Rattle.count_sketch.specs.Counters.{int_sum_by};
 ghost use Rattle.sketch_merge.specs.Merged.{HaveUpTo, keys_at};
 ghost use Rattle.recursive_sum.specs.Sum.{counts_at, turned_at, recursive_sum};
@@ -14,7 +15,8 @@ use sketch_merge::Merged;
 /// them. The family is that of the sketches. Takes no memory.
 pub fn g_sum(family: &Family, merged: &Merged, g: G) -> i128
     ensures value { result ≡ recursive_sum family.now g merged.now }
-    ensures bound { (n : ℕ) → HaveUpTo n merged.now.keys → unsigned_abs result ≤ 2 ^ (merged.now.setting.levels + 1) * n * 2 ^ 45 }
+    ensures bound { (n : ℕ) → HaveUpTo n merged.now.keys
+        → unsigned_abs result ≤ 2 ^ (merged.now.setting.levels + 1) * n * 2 ^ 45 }
 {
     let highest = highest_level(merged);
     let mut sum = whole_level(family, merged, highest, g);
@@ -62,6 +64,7 @@ fn whole_sum(family: &Family, merged: &Merged, level: u8, g: G, keys: &[FlowKey]
     ensures bound { unsigned_abs result ≤ length keys.now * 2 ^ 45 }
     ensures few { length keys.now < 2 ^ 64 }
 {
+    // Its clause says that there are fewer than 2^64 keys.
     let _few = keys.len();
     let mut sum = 0;
     for key in keys {
@@ -78,6 +81,7 @@ fn turned_sum(family: &Family, merged: &Merged, level: u8, g: G, keys: &[FlowKey
     ensures bound { unsigned_abs result ≤ length keys.now * 2 ^ 45 }
     ensures few { length keys.now < 2 ^ 64 }
 {
+    // Its clause says that there are fewer than 2^64 keys.
     let _few = keys.len();
     let mut sum = 0;
     for key in keys {

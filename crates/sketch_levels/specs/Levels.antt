@@ -1,5 +1,6 @@
 -- What clauses see of the levels of a sketch, and of which list of items they are.
-use Rattle.std.specs.Prelude.{◌^◌, ◌≡◌, ℕ, ◌+◌, ◌≤◌, Bool, false, List, [], ◌∷◌, ◌++◌, length, slice_index_or, All, IsTrue}
+use Rattle.std.specs.Prelude.{◌^◌, ◌≡◌, ℕ, ◌+◌, ◌≤◌, Bool, false, List, [], ◌∷◌, ◌++◌, length, map, slice_index_or}
+use Rattle.std.specs.Prelude.{All, IsTrue}
 use Rattle.hash_family.specs.Limits.{are_within}
 use Rattle.count_sketch.specs.Counters.{Item, Grid, grid_of, AllUpTo}
 use Rattle.topk_heap.specs.Table.{Table}
@@ -38,6 +39,10 @@ no_layer = record {
 unfoldable pub level_at : View → ℕ → Layer
 level_at view level = slice_index_or view.levels level no_layer
 
+-- the keys in a level's heap
+unfoldable pub heap_keys : View → ℕ → List (List ℕ)
+heap_keys view level = map (λ entry. entry.key) (level_at view level).heap.entries
+
 -- the shape of a level: rows, width and heap of the setting, and counters no greater than the weight
 pub record IsLayer (setting : Setting) (weight : ℕ) (layer : Layer) : Type 0 where
   pub rows : layer.sketch.rows ≡ setting.rows
@@ -47,7 +52,9 @@ pub record IsLayer (setting : Setting) (weight : ℕ) (layer : Layer) : Type 0 w
 
 -- a level takes an item: of whatever list it was the level before, it is that of the list with the item at its end
 pub record Takes (seed level : ℕ) (item : Item) (old new : Layer) : Type 0 where
-  pub list : (setting : Setting) (items : List Item) → setting.seed ≡ seed → old ≡ layer_of setting level (live_items seed level items) → new ≡ layer_of setting level (live_items seed level (items ++ item ∷ []))
+  pub list : (setting : Setting) (items : List Item) → setting.seed ≡ seed
+      → old ≡ layer_of setting level (live_items seed level items)
+      → new ≡ layer_of setting level (live_items seed level (items ++ item ∷ []))
   pub shape : (setting : Setting) (n : ℕ) → IsLayer setting n old → IsLayer setting (n + item.weight) new
 
 -- what all levels are: within the limits, as many as the setting says, and of a weight up to 2^44
@@ -61,4 +68,5 @@ pub record IsView (view : View) : Type 0 where
 pub record Holds (view : View) (items : List Item) : Type 0 where
   pub weight : view.weight ≡ weight_of items
   pub number : length view.levels ≡ view.setting.levels + 1
-  pub each : (level : ℕ) → level ≤ view.setting.levels → level_at view level ≡ layer_of view.setting level (live_items view.setting.seed level items)
+  pub each : (level : ℕ) → level ≤ view.setting.levels
+      → level_at view level ≡ layer_of view.setting level (live_items view.setting.seed level items)

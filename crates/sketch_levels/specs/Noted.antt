@@ -11,7 +11,8 @@ pub record Note : Type 0 where
 
 -- the distinct keys that were noted with a family by which they are live at a level, in ascending order
 unfoldable pub live_keys : ℕ → List Note → List (List ℕ)
-live_keys level notes = distinct (map (λ note. note.key) (filter (λ note. is_live note.seed level note.key) notes))
+live_keys level notes =
+    distinct (map (λ note. note.key) (filter (λ note. is_live note.seed level note.key) notes))
 
 -- items whose keys are noted with one family
 unfoldable pub notes_of : ℕ → List Item → List Note
@@ -28,8 +29,10 @@ keys_at level entries = map (λ entry. entry.0) (filter (λ entry. nat_le level 
 
 -- entries before and after a key is noted: it joins the keys of each level, up to the highest, where it is live
 pub record TakesKey (seed top : ℕ) (key : List ℕ) (old new : List (List ℕ × ℕ)) : Type 0 where
-  pub live : (level : ℕ) → level ≤ top → is_live seed level key ≡ true → keys_at level new ≡ with_key (keys_at level old) key
-  pub dead : (level : ℕ) → level ≤ top → is_live seed level key ≡ false → keys_at level new ≡ keys_at level old
+  pub live : (level : ℕ) → level ≤ top → is_live seed level key ≡ true
+      → keys_at level new ≡ with_key (keys_at level old) key
+  pub dead : (level : ℕ) → level ≤ top → is_live seed level key ≡ false
+      → keys_at level new ≡ keys_at level old
 
 -- the keys of each level are those of the notes
 pub record HoldsNotes (noted : Noted) (notes : List Note) : Type 0 where

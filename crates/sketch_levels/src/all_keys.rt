@@ -1,5 +1,6 @@
 //! Every noted key.
-ghost use Rattle.std.specs.Prelude.{◌≡◌, ◌↔◌, ◌+◌, ◌<◌, ◌≤◌, ℕ, true, false, List, [], ◌∷◌, ◌++◌, Any, Contains, IfOk, OnOk, OnErr};
+ghost use Rattle.std.specs.Prelude.{◌≡◌, ◌↔◌, ◌+◌, ◌<◌, ◌≤◌, ℕ, true, false, List, [], ◌∷◌, ◌++◌};
+ghost use Rattle.std.specs.Prelude.{Any, Contains, IfOk, OnOk, OnErr};
 ghost use Rattle.std.specs.Cmp.Lexicographic.{slice_cmp};
 ghost use Rattle.std.specs.Ordering.{nat_cmp};
 ghost use Rattle.std.specs.List.Sorted.{IsStrictlySortedBy};
@@ -50,8 +51,11 @@ impl AllKeys {
 
     /// Notes a key, which is live at levels by this family. Nothing changes where memory for it is wanting.
     pub fn note(&mut self, family: &Family, key: &FlowKey) -> Result<(), Memory>
-        ensures notes { OnOk result ((notes : List Note) → HoldsNotes self.old notes → HoldsNotes self.new (notes ++ record { seed = family.now; key = key.now } ∷ [])) }
-        ensures items { OnOk result ((items : List Item) (weight : ℕ) → HoldsNotes self.old (notes_of family.now items) → HoldsNotes self.new (notes_of family.now (items ++ record { key = key.now; weight = weight } ∷ []))) }
+        ensures notes { OnOk result ((notes : List Note) → HoldsNotes self.old notes
+            → HoldsNotes self.new (notes ++ record { seed = family.now; key = key.now } ∷ [])) }
+        ensures items { OnOk result ((items : List Item) (weight : ℕ)
+            → HoldsNotes self.old (notes_of family.now items)
+            → HoldsNotes self.new (notes_of family.now (items ++ record { key = key.now; weight = weight } ∷ []))) }
         ensures refused { OnErr result (self.new ≡ self.old) }
         ensures top { self.new.top ≡ self.old.top }
     {
@@ -63,9 +67,13 @@ impl AllKeys {
     pub fn keys(&self, alloc: Global, level: u8) -> Result<Vec<FlowKey>, Memory>
         requires { level ≤ self.now.top }
         ensures value { IfOk result (λ keys. keys.items ≡ keys_at level self.now.entries) }
-        ensures notes { IfOk result (λ keys. (notes : List Note) → HoldsNotes self.now notes → keys.items ≡ live_keys level notes) }
-        ensures items { IfOk result (λ keys. (seed : ℕ) (items : List Item) → HoldsNotes self.now (notes_of seed items) → keys.items ≡ distinct_keys (live_items seed level items)) }
-        ensures every { IfOk result (λ keys. (notes : List Note) → HoldsNotes self.now notes → (key : List ℕ) → Contains keys.items key ↔ Any (λ note. (note.key ≡ key) × (is_live note.seed level note.key ≡ true)) notes) }
+        ensures notes { IfOk result (λ keys. (notes : List Note) → HoldsNotes self.now notes
+            → keys.items ≡ live_keys level notes) }
+        ensures items { IfOk result (λ keys. (seed : ℕ) (items : List Item) → HoldsNotes self.now (notes_of seed items)
+            → keys.items ≡ distinct_keys (live_items seed level items)) }
+        ensures every { IfOk result (λ keys. (notes : List Note) → HoldsNotes self.now notes → (key : List ℕ)
+            → Contains keys.items key
+            ↔ Any (λ note. (note.key ≡ key) × (is_live note.seed level note.key ≡ true)) notes) }
         ensures ascending { IfOk result (λ keys. IsStrictlySortedBy (slice_cmp nat_cmp) keys.items) }
     {
         keys_from(alloc, &self.highest, level)
@@ -113,6 +121,7 @@ fn is_noted(highest: &BTreeMap<FlowKey, u8>, key: &FlowKey, level: u8) -> bool
     ensures not_yet { result ≡ false → (n : ℕ) → get (slice_cmp nat_cmp) highest.now key.now ≡ Some n → n < level }
     ensures ordered { IsOrdered (slice_cmp nat_cmp) highest.now }
 {
+    // Its clause says that the entries ascend by key.
     let _entries = highest.len();
     match highest.get(key) {
         Some(noted) => *noted >= level,

@@ -1,19 +1,32 @@
-//! What one item more does to the kept keys of a level.
-ghost use Rattle.std.specs.Prelude.{◌≡◌, ℕ, true, false, List, [], ◌∷◌, ◌++◌};
+//! What a level keeps of a list of items.
+ghost use Rattle.std.specs.Prelude.{◌≡◌, ℕ, true, false, List, [], ◌∷◌, ◌++◌, All};
 ghost use Rattle.hash_family.specs.Hash.{is_live};
 ghost use Rattle.count_sketch.specs.Counters.{Item};
 ghost use Rattle.topk_heap.specs.Ranking.{best, with_score};
-ghost use Rattle.sketch_levels.specs.Items.{live_items};
+ghost use Rattle.sketch_levels.specs.Items.{distinct_keys, live_items};
 ghost use Rattle.hash_family.specs.Setting.{Setting};
-ghost use Rattle.sketch_levels.specs.Kept.{kept, score};
+ghost use Rattle.sketch_levels.specs.Kept.{HasLastScore, is_dropped, kept, kept_keys, score};
 
 /// Of a list followed by an item, a level keeps the best of the keys that it kept before and the item's key, with
-/// the estimate that the item left; where the item's key isn't live there, it keeps what it kept before. No code.
+/// the estimate that the item left; where the item's key isn't live there, it keeps what it kept before. So each
+/// kept key has the estimate that its own last item left, and as long as the heap dropped no key, the kept keys are
+/// all distinct keys that are live there. No code.
 pub fn kept_keys_law()
     ensures none { (setting : Setting) (level : ℕ) → kept setting level (live_items setting.seed level []) ≡ [] }
-    ensures live { (setting : Setting) (level : ℕ) (items : List Item) (item : Item) → is_live setting.seed level item.key ≡ true
+    ensures live { (setting : Setting) (level : ℕ) (items : List Item) (item : Item)
+        → is_live setting.seed level item.key ≡ true
         → kept setting level (live_items setting.seed level (items ++ item ∷ []))
-        ≡ best setting.heap (with_score (kept setting level (live_items setting.seed level items)) item.key (score setting level (live_items setting.seed level (items ++ item ∷ [])) item.key)) }
-    ensures dead { (setting : Setting) (level : ℕ) (items : List Item) (item : Item) → is_live setting.seed level item.key ≡ false
-        → kept setting level (live_items setting.seed level (items ++ item ∷ [])) ≡ kept setting level (live_items setting.seed level items) }
+        ≡ best setting.heap
+        (with_score (kept setting level (live_items setting.seed level items)) item.key
+        (score setting level (live_items setting.seed level (items ++ item ∷ [])) item.key)) }
+    ensures dead { (setting : Setting) (level : ℕ) (items : List Item) (item : Item)
+        → is_live setting.seed level item.key ≡ false
+        → kept setting level (live_items setting.seed level (items ++ item ∷ []))
+        ≡ kept setting level (live_items setting.seed level items) }
+    ensures scores { (setting : Setting) (level : ℕ) (items : List Item)
+        → All (HasLastScore setting level items) (kept setting level items) }
+    ensures all { (setting : Setting) (level : ℕ) (items : List Item)
+        → is_dropped setting (live_items setting.seed level items) ≡ false
+        → kept_keys setting level (live_items setting.seed level items)
+        ≡ distinct_keys (live_items setting.seed level items) }
 {}

@@ -1,5 +1,6 @@
 //! One level of a sketch.
-ghost use Rattle.std.specs.Prelude.{◌^◌, ◌≡◌, ◌+◌, ◌*◌, ◌≤◌, ℕ, List, [], ◌∷◌, ◌++◌, nat_lt, length, map, IfOk, IsTrue, unsigned_abs};
+ghost use Rattle.std.specs.Prelude.{◌^◌, ◌≡◌, ◌+◌, ◌*◌, ◌≤◌, ℕ, List, [], ◌∷◌, ◌++◌, nat_lt, length, map};
+ghost use Rattle.std.specs.Prelude.{IfOk, IsTrue, unsigned_abs};
 ghost use Rattle.std.specs.Cmp.Lexicographic.{slice_cmp};
 ghost use Rattle.std.specs.Ordering.{nat_cmp};
 ghost use Rattle.std.specs.List.Sorted.{IsStrictlySortedBy};
@@ -55,8 +56,11 @@ impl Level {
     pub(crate) fn feed(&mut self, family: &Family, number: u8, key: &FlowKey, weight: u32)
         requires number { number ≤ 16 }
         requires small { AllUpTo (2 ^ 44) self.old.sketch.counters }
-        ensures list { (setting : Setting) (items : List Item) → setting.seed ≡ family.now → self.old ≡ layer_of setting number items → self.new ≡ layer_of setting number (items ++ record { key = key.now; weight = weight } ∷ []) }
-        ensures shape { (setting : Setting) (n : ℕ) → IsLayer setting n self.old → IsLayer setting (n + weight) self.new }
+        ensures list { (setting : Setting) (items : List Item) → setting.seed ≡ family.now
+            → self.old ≡ layer_of setting number items
+            → self.new ≡ layer_of setting number (items ++ record { key = key.now; weight = weight } ∷ []) }
+        ensures shape { (setting : Setting) (n : ℕ)
+            → IsLayer setting n self.old → IsLayer setting (n + weight) self.new }
     {
         let score = self.sketch.update_and_estimate(family, number, key, weight);
         let drops = offer(&mut self.heap, key, score);
@@ -66,7 +70,8 @@ impl Level {
     /// The estimate of a key's weight.
     pub(crate) fn estimate(&self, family: &Family, number: u8, key: &FlowKey) -> i64
         requires { number ≤ 16 }
-        ensures value { result ≡ estimate family.now number self.now.sketch.rows self.now.sketch.width self.now.sketch.counters key.now }
+        ensures value { result
+            ≡ estimate family.now number self.now.sketch.rows self.now.sketch.width self.now.sketch.counters key.now }
         ensures bound { (n : ℕ) → AllUpTo n self.now.sketch.counters → unsigned_abs result ≤ n }
     {
         self.sketch.estimate(family, number, key)
@@ -93,6 +98,7 @@ impl Level {
         ensures ascending { IfOk result (λ keys. IsStrictlySortedBy (slice_cmp nat_cmp) keys.items) }
         ensures few { IfOk result (λ keys. length keys.items ≤ self.now.heap.size) }
     {
+        // Its clause says that there are no more keys than the heap holds.
         let _few = self.heap.len();
         self.heap.keys_sorted(alloc)
     }

@@ -1,5 +1,6 @@
 //! All levels of a sketch.
-ghost use Rattle.std.specs.Prelude.{◌^◌, ◌≡◌, ◌+◌, ◌*◌, ◌<◌, ◌≤◌, ℕ, true, false, List, [], ◌∷◌, ◌++◌, length, map, slice_index_or, All, IfOk, unsigned_abs};
+ghost use Rattle.std.specs.Prelude.{◌^◌, ◌≡◌, ◌+◌, ◌*◌, ◌<◌, ◌≤◌, ℕ, true, false, List, [], ◌∷◌, ◌++◌, length, slice_index_or};
+ghost use Rattle.std.specs.Prelude.{All, IfOk, unsigned_abs};
 ghost use Rattle.std.specs.Cmp.Lexicographic.{slice_cmp};
 ghost use Rattle.std.specs.Ordering.{nat_cmp};
 ghost use Rattle.std.specs.List.Sorted.{IsStrictlySortedBy};
@@ -8,8 +9,8 @@ ghost use Rattle.count_sketch.specs.Counters.{Item, AllUpTo, counters_of};
 ghost use Rattle.count_sketch.specs.Estimate.{estimate};
 ghost use Rattle.sketch_levels.specs.Items.{live_items};
 ghost use Rattle.hash_family.specs.Setting.{setting_of};
-ghost use Rattle.sketch_levels.specs.Kept.{kept, is_dropped, score};
-ghost use Rattle.sketch_levels.specs.Levels.{Layer, IsLayer, Takes, layer_of, level_at, IsView, Holds};
+ghost use Rattle.sketch_levels.specs.Kept.{kept_keys, is_dropped, score};
+ghost use Rattle.sketch_levels.specs.Levels.{Layer, IsLayer, Takes, layer_of, level_at, heap_keys, IsView, Holds};
 
 use crate::level::Level;
 use flow_keys::FlowKey;
@@ -37,7 +38,8 @@ impl Model for Levels {
 
     ghost view = { λ all. record { setting = setting_of all.params; weight = all.weight; levels = all.levels.items } };
 
-    ghost invariant = { λ all. (all.family ≡ all.params.seed) × IsView (record { setting = setting_of all.params; weight = all.weight; levels = all.levels.items }) };
+    ghost invariant = { λ all. (all.family ≡ all.params.seed)
+        × IsView (record { setting = setting_of all.params; weight = all.weight; levels = all.levels.items }) };
 }
 
 impl Levels {
@@ -60,7 +62,8 @@ impl Levels {
     /// its new estimate to that level's heap. The weights of all calls are at most 2^44 together.
     pub fn feed(&mut self, key: &FlowKey, weight: u32)
         requires light { self.old.weight + weight ≤ 2 ^ 44 }
-        ensures list { (items : List Item) → Holds self.old items → Holds self.new (items ++ record { key = key.now; weight = weight } ∷ []) }
+        ensures list { (items : List Item)
+            → Holds self.old items → Holds self.new (items ++ record { key = key.now; weight = weight } ∷ []) }
         ensures setting { self.new.setting ≡ self.old.setting }
         ensures weight { self.new.weight ≡ self.old.weight + weight }
     {
@@ -71,8 +74,11 @@ impl Levels {
     /// The estimate of a key's weight at a level, from the counters of that level.
     pub fn estimate(&self, level: u8, key: &FlowKey) -> i64
         requires { level ≤ self.now.setting.levels }
-        ensures value { result ≡ estimate self.now.setting.seed level self.now.setting.rows self.now.setting.width (level_at self.now level).sketch.counters key.now }
-        ensures list { (items : List Item) → Holds self.now items → result ≡ score self.now.setting level (live_items self.now.setting.seed level items) key.now }
+        ensures value { result
+            ≡ estimate self.now.setting.seed level self.now.setting.rows self.now.setting.width
+            (level_at self.now level).sketch.counters key.now }
+        ensures list { (items : List Item) → Holds self.now items
+            → result ≡ score self.now.setting level (live_items self.now.setting.seed level items) key.now }
         ensures bound { unsigned_abs result ≤ self.now.weight }
     {
         self.level(level).estimate(&self.family, level, key)
@@ -82,7 +88,10 @@ impl Levels {
     pub fn counters(&self, level: u8) -> &[i64]
         requires { level ≤ self.now.setting.levels }
         ensures value { result.now ≡ (level_at self.now level).sketch.counters }
-        ensures list { (items : List Item) → Holds self.now items → result.now ≡ counters_of self.now.setting.seed level self.now.setting.rows self.now.setting.width (live_items self.now.setting.seed level items) }
+        ensures list { (items : List Item) → Holds self.now items
+            → result.now
+            ≡ counters_of self.now.setting.seed level self.now.setting.rows self.now.setting.width
+            (live_items self.now.setting.seed level items) }
         ensures shape { length result.now ≡ self.now.setting.rows * self.now.setting.width }
         ensures bound { AllUpTo self.now.weight result.now }
     {
@@ -93,7 +102,8 @@ impl Levels {
     pub fn dropped(&self, level: u8) -> bool
         requires { level ≤ self.now.setting.levels }
         ensures value { result ≡ (level_at self.now level).dropped }
-        ensures list { (items : List Item) → Holds self.now items → result ≡ is_dropped self.now.setting (live_items self.now.setting.seed level items) }
+        ensures list { (items : List Item) → Holds self.now items
+            → result ≡ is_dropped self.now.setting (live_items self.now.setting.seed level items) }
     {
         self.level(level).dropped()
     }
@@ -101,8 +111,9 @@ impl Levels {
     /// The keys in a level's heap, in strictly ascending order. It takes memory for them.
     pub fn keys(&self, alloc: Global, level: u8) -> Result<Vec<FlowKey>, Memory>
         requires { level ≤ self.now.setting.levels }
-        ensures value { IfOk result (λ keys. keys.items ≡ map (λ entry. entry.key) (level_at self.now level).heap.entries) }
-        ensures list { IfOk result (λ keys. (items : List Item) → Holds self.now items → keys.items ≡ map (λ entry. entry.key) (kept self.now.setting level (live_items self.now.setting.seed level items))) }
+        ensures value { IfOk result (λ keys. keys.items ≡ heap_keys self.now level) }
+        ensures list { IfOk result (λ keys. (items : List Item) → Holds self.now items
+            → keys.items ≡ kept_keys self.now.setting level (live_items self.now.setting.seed level items)) }
         ensures ascending { IfOk result (λ keys. IsStrictlySortedBy (slice_cmp nat_cmp) keys.items) }
         ensures few { IfOk result (λ keys. length keys.items ≤ self.now.setting.heap) }
     {
@@ -138,7 +149,8 @@ impl Levels {
 // As many levels as the parameters say, to which nothing was fed.
 fn empty_levels(alloc: Global, params: &Params) -> Result<Vec<Level>, Memory>
     ensures number { IfOk result (λ levels. length levels.items ≡ params.now.levels + 1) }
-    ensures empty { IfOk result (λ levels. All (λ layer. (level : ℕ) → layer ≡ layer_of (setting_of params.now) level []) levels.items) }
+    ensures empty { IfOk result (λ levels.
+        All (λ layer. (level : ℕ) → layer ≡ layer_of (setting_of params.now) level []) levels.items) }
     ensures shape { IfOk result (λ levels. All (IsLayer (setting_of params.now) 0) levels.items) }
 {
     let Ok(mut levels) = Vec::with_capacity(alloc, usize::from(params.levels) + 1) else {
@@ -157,7 +169,9 @@ fn empty_levels(alloc: Global, params: &Params) -> Result<Vec<Level>, Memory>
 fn feed_levels(levels: &mut [Level], family: &Family, key: &FlowKey, weight: u32)
     requires number { length levels.old ≤ 17 }
     requires small { All (λ layer. AllUpTo (2 ^ 44) layer.sketch.counters) levels.old }
-    ensures each { (level : ℕ) (d : Layer) → level < length levels.old → Takes family.now level (record { key = key.now; weight = weight }) (slice_index_or levels.old level d) (slice_index_or levels.new level d) }
+    ensures each { (level : ℕ) (d : Layer) → level < length levels.old
+        → Takes family.now level (record { key = key.now; weight = weight })
+        (slice_index_or levels.old level d) (slice_index_or levels.new level d) }
 {
     for number in 0..levels.len() {
         if !takes(family, number as u8, key) {
@@ -171,7 +185,9 @@ fn feed_levels(levels: &mut [Level], family: &Family, key: &FlowKey, weight: u32
 #[inline]
 fn takes(family: &Family, level: u8, key: &FlowKey) -> bool
     requires { level ≤ 16 }
-    ensures live { result ≡ true → ((below : ℕ) → below < level → is_live family.now below key.now ≡ true) → is_live family.now level key.now ≡ true }
+    ensures live { result ≡ true
+        → ((below : ℕ) → below < level → is_live family.now below key.now ≡ true)
+        → is_live family.now level key.now ≡ true }
     ensures dead { result ≡ false → (top : ℕ) → level ≤ top → is_live family.now top key.now ≡ false }
 {
     level == 0 || family.sample(level, key)

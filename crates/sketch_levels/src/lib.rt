@@ -3,7 +3,7 @@
 //! - `level`: one level, with its counters, its heap, and whether the heap dropped a key
 //! - `levels`: `Levels`, all levels, fed with one packet after another
 //! - `all_keys`: `AllKeys`, every noted key with the highest level at which it is live
-//! - `laws`: what one item more does to the kept keys
+//! - `laws`: what one item more does to the kept keys, and when none is missing
 //!
 //! `specs/Levels.antt` says of which list of items the levels are: each is that of the items whose key is live
 //! there. `specs/Kept.antt` says the kept keys and the dropped mark of such a list, and `specs/Noted.antt` the
@@ -18,6 +18,3 @@ mod levels;
 pub use all_keys::AllKeys;
 pub use laws::kept_keys_law;
 pub use levels::Levels;
-
-#[cfg(test)]
-mod tests;

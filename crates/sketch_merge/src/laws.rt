@@ -7,6 +7,9 @@ ghost use Rattle.sketch_merge.specs.Merged.{united};
 
 /// The union of two lists has exactly the keys of either, and it ascends strictly where the first list does. No code.
 pub fn united_keys_law()
-    ensures members { (keys more : List (List ℕ)) (key : List ℕ) → Contains (united keys more) key ↔ (Contains keys key ⊎ Contains more key) }
-    ensures ascending { (keys more : List (List ℕ)) → IsStrictlySortedBy (slice_cmp nat_cmp) keys → IsStrictlySortedBy (slice_cmp nat_cmp) (united keys more) }
+    ensures members { (keys more : List (List ℕ)) (key : List ℕ)
+        → Contains (united keys more) key ↔ (Contains keys key ⊎ Contains more key) }
+    ensures ascending { (keys more : List (List ℕ))
+        → IsStrictlySortedBy (slice_cmp nat_cmp) keys
+        → IsStrictlySortedBy (slice_cmp nat_cmp) (united keys more) }
 {}

@@ -4,13 +4,14 @@ ghost use Rattle.std.specs.List.{flat_map};
 ghost use Rattle.std.specs.Cmp.Lexicographic.{slice_cmp};
 ghost use Rattle.std.specs.Ordering.{nat_cmp};
 ghost use Rattle.std.specs.List.Sorted.{IsStrictlySortedBy};
+ghost use Rattle.hash_family.specs.Limits.{most_counters};
 ghost use Rattle.hash_family.specs.Setting.{setting_of};
 ghost use Rattle.count_sketch.specs.Counters.{AllUpTo};
 ghost use Rattle.count_sketch.specs.Estimate.{estimate};
 ghost use Rattle.sketch_merge.specs.Merged.{HaveUpTo, IsView, counters_at, difference, keys_at};
 
-use crate::difference::differences;
 use crate::levels::levels_of;
+use crate::subtraction::subtracted_levels;
 use crate::union::unions;
 use count_sketch::estimate_in;
 use flow_keys::FlowKey;
@@ -37,9 +38,21 @@ impl Model for Merged {
 
     ghost Value = { View };
 
-    ghost view = { λ all. record { setting = setting_of all.params; weight = all.weight; counters = map (λ level. level.items) all.counters.items; keys = map (λ level. level.items) all.keys.items; dropped = all.dropped } };
+    ghost view = { λ all. record {
+      setting = setting_of all.params;
+      weight = all.weight;
+      counters = map (λ level. level.items) all.counters.items;
+      keys = map (λ level. level.items) all.keys.items;
+      dropped = all.dropped;
+    } };
 
-    ghost invariant = { λ all. IsView (record { setting = setting_of all.params; weight = all.weight; counters = map (λ level. level.items) all.counters.items; keys = map (λ level. level.items) all.keys.items; dropped = all.dropped }) };
+    ghost invariant = { λ all. IsView (record {
+      setting = setting_of all.params;
+      weight = all.weight;
+      counters = map (λ level. level.items) all.counters.items;
+      keys = map (λ level. level.items) all.keys.items;
+      dropped = all.dropped;
+    }) };
 }
 
 impl Merged {
@@ -63,7 +76,8 @@ impl Merged {
         ensures weight { IfOk result (λ merged. merged.weight ≡ weight) }
         ensures dropped { IfOk result (λ merged. merged.dropped ≡ dropped) }
         ensures keys { IfOk result (λ merged. merged.keys ≡ map (λ level. level.items) keys.items) }
-        ensures counters { IfOk result (λ merged. (parts : List (List ℤ)) → All (λ part. length part ≡ params.rows * params.width) parts
+        ensures counters { IfOk result (λ merged. (parts : List (List ℤ))
+            → All (λ part. length part ≡ params.rows * params.width) parts
             → flat_map (λ part. part) parts ≡ counters.items → merged.counters ≡ parts) }
         ensures joined { IfOk result (λ merged. flat_map (λ level. level) merged.counters ≡ counters.items) }
         ensures bound { IfOk result (λ merged. All (AllUpTo weight) merged.counters) }
@@ -83,7 +97,9 @@ impl Merged {
     /// The estimate of a key's weight at a level, from the counters of that level, by the functions of this family.
     pub fn estimate(&self, family: &Family, level: u8, key: &FlowKey) -> i64
         requires { level ≤ self.now.setting.levels }
-        ensures value { result ≡ estimate family.now level self.now.setting.rows self.now.setting.width (counters_at self.now level) key.now }
+        ensures value { result
+            ≡ estimate family.now level self.now.setting.rows self.now.setting.width
+            (counters_at self.now level) key.now }
         ensures bound { unsigned_abs result ≤ 2 ^ 45 }
         ensures within { (n : ℕ) → AllUpTo n (counters_at self.now level) → unsigned_abs result ≤ n }
     {
@@ -106,7 +122,7 @@ impl Merged {
         requires { level ≤ self.now.setting.levels }
         ensures value { result.now ≡ counters_at self.now level }
         ensures shape { length result.now ≡ self.now.setting.rows * self.now.setting.width }
-        ensures few { length result.now ≤ 14336 }
+        ensures few { length result.now ≤ most_counters }
         ensures bound { AllUpTo (2 ^ 45) result.now }
     {
         &self.counters[usize::from(level)]
@@ -141,10 +157,11 @@ impl Merged {
         requires setting { self.now.setting ≡ other.now.setting }
         requires small { All (AllUpTo (2 ^ 44)) self.now.counters }
         requires other_small { All (AllUpTo (2 ^ 44)) other.now.counters }
-        ensures difference { IfOk result (λ less. less ≡ difference self.now other.now) }
-        ensures few { IfOk result (λ less. (n m : ℕ) → HaveUpTo n self.now.keys → HaveUpTo m other.now.keys → HaveUpTo (n + m) less.keys) }
+        ensures value { IfOk result (λ less. less ≡ difference self.now other.now) }
+        ensures few { IfOk result (λ less. (n m : ℕ)
+            → HaveUpTo n self.now.keys → HaveUpTo m other.now.keys → HaveUpTo (n + m) less.keys) }
     {
-        let counters = differences(alloc, &self.counters, &other.counters)?;
+        let counters = subtracted_levels(alloc, &self.counters, &other.counters)?;
         let keys = unions(alloc, &self.keys, &other.keys)?;
         Ok(Merged {
             params: self.params,

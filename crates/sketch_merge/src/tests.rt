@@ -33,7 +33,8 @@ fn one<T: Drop>(alloc: Global, item: T) -> Result<Vec<T>, Memory>
 // One level with one key.
 fn one_key(alloc: Global, key: FlowKey) -> Result<Vec<Vec<FlowKey>>, Memory>
     ensures number { IfOk result (λ keys. length keys.items ≡ 1) }
-    ensures ascending { IfOk result (λ keys. All (λ level. IsStrictlySortedBy (slice_cmp nat_cmp) level.items) keys.items) }
+    ensures ascending { IfOk result (λ keys.
+        All (λ level. IsStrictlySortedBy (slice_cmp nat_cmp) level.items) keys.items) }
 {
     let level = one(alloc, key)?;
     let keys = one(alloc, level)?;

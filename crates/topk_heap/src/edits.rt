@@ -9,8 +9,8 @@ use flow_keys::FlowKey;
 use mon_io::Memory;
 use std::alloc::Global;
 
-/// Gives the key its score: in its entry where it is held, else in a new one, for which there must be room.
-pub fn put(entries: &mut Vec<Entry>, key: FlowKey, score: i64)
+// Gives the key its score: in its entry where it is held, else in a new one, for which there must be room.
+pub(crate) fn put(entries: &mut Vec<Entry>, key: FlowKey, score: i64)
     requires ascending { IsAscending entries.old.items }
     requires room { vec_len entries.old < vec_capacity entries.old }
     ensures items { entries.new.items ≡ with_score entries.old.items key score }
@@ -25,8 +25,8 @@ pub fn put(entries: &mut Vec<Entry>, key: FlowKey, score: i64)
     }
 }
 
-/// Drops the entry that ranks last where there is one too many, and gives its key.
-pub fn drop_last_ranked(entries: &mut Vec<Entry>, size: usize) -> Option<FlowKey>
+// Drops the entry that ranks last where there is one too many, and gives its key.
+pub(crate) fn drop_last_ranked(entries: &mut Vec<Entry>, size: usize) -> Option<FlowKey>
     requires ascending { IsAscending entries.old.items }
     requires few { length entries.old.items ≤ size + 1 }
     ensures kept { entries.new.items ≡ best size entries.old.items }
@@ -42,8 +42,8 @@ pub fn drop_last_ranked(entries: &mut Vec<Entry>, size: usize) -> Option<FlowKey
     Some(entries.remove(place).key)
 }
 
-/// The keys in the order of their entries.
-pub fn keys_of(alloc: Global, entries: &[Entry]) -> Result<Vec<FlowKey>, Memory>
+// The keys in the order of their entries.
+pub(crate) fn keys_of(alloc: Global, entries: &[Entry]) -> Result<Vec<FlowKey>, Memory>
     ensures keys { IfOk result (λ keys. keys.items ≡ map (λ entry. entry.key) entries.now) }
 {
     match entries.iter().map(|entry| entry.key).collect(alloc) {

@@ -14,8 +14,8 @@ pub struct Entry {
 }
 
 impl Entry {
-    /// Whether this entry ranks before `other`: by a greater score, or by an equal one and a lesser key.
-    pub fn ranks_before(&self, other: &Entry) -> bool
+    // Whether this entry ranks before `other`: by a greater score, or by an equal one and a lesser key.
+    pub(crate) fn ranks_before(&self, other: &Entry) -> bool
         ensures value { result ≡ ranks_before self.now other.now }
     {
         other

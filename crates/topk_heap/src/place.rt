@@ -6,9 +6,9 @@ use crate::Entry;
 use flow_keys::FlowKey;
 use std::cmp::Ordering;
 
-/// The place of the key as `Ok`, or as `Err` the place before which it would be put in. Entries
-/// are passed from the front while their keys are lesser.
-pub fn place_of(entries: &[Entry], key: &FlowKey) -> Result<usize, usize>
+// The place of the key as `Ok`, or as `Err` the place before which it would be put in. Entries
+// are passed from the front while their keys are lesser.
+pub(crate) fn place_of(entries: &[Entry], key: &FlowKey) -> Result<usize, usize>
     ensures place { IsPlace entries.now key.now result }
 {
     for (place, entry) in entries.iter().enumerate() {
@@ -21,8 +21,8 @@ pub fn place_of(entries: &[Entry], key: &FlowKey) -> Result<usize, usize>
     Err(entries.len())
 }
 
-/// The place of the entry that ranks before no other.
-pub fn last_ranked(entries: &[Entry]) -> usize
+// The place of the entry that ranks before no other.
+pub(crate) fn last_ranked(entries: &[Entry]) -> usize
     requires { 0 < length entries.now }
     ensures last { RanksLast entries.now result }
 {

@@ -27,6 +27,17 @@ fn offers_answer(rt: &impl Abort, alloc: Global, k: u16, rows: &[(u32, i64, Offe
 }
 
 #[test]
+fn the_largest_table(rt: HostRuntime) {
+    let mut top = TopK::new(rt.alloc(), 1024).expect(&rt, "a table");
+    for n in 0..1024 {
+        assert_eq!(rt; top.offer(key(&rt, n), 5), Offer::Kept);
+    }
+    assert_eq!(rt; top.offer(key(&rt, 1024), 5), Offer::Refused);
+    let keys = top.keys_sorted(rt.alloc()).expect(&rt, "the keys");
+    assert_eq!(rt; keys.len(), 1024);
+}
+
+#[test]
 fn a_tie_goes_to_the_lesser_key(rt: HostRuntime) {
     let one = [
         (2, 5, Offer::Kept),

@@ -1,5 +1,6 @@
 //! The table of the best keys.
-ghost use Rattle.std.specs.Prelude.{◌≡◌, ◌≢◌, ◌↔◌, ℕ, ◌+◌, ◌<◌, ◌≤◌, List, if◌then◌else◌, length, map, IfOk, Contains};
+ghost use Rattle.std.specs.Prelude.{◌≡◌, ◌≢◌, ◌↔◌, ℕ, ◌+◌, ◌<◌, ◌≤◌, List, if◌then◌else◌, length, map};
+ghost use Rattle.std.specs.Prelude.{IfOk, Contains};
 ghost use Rattle.std.specs.Cmp.Lexicographic.{slice_cmp};
 ghost use Rattle.std.specs.Ordering.{nat_cmp};
 ghost use Rattle.std.specs.List.Sorted.{IsStrictlySortedBy};
@@ -29,7 +30,8 @@ impl Model for TopK {
 
     ghost view = { λ top. record { size = top.size; entries = top.entries.items } };
 
-    ghost invariant = { λ top. IsTableInRoom (record { size = top.size; entries = top.entries.items }) (vec_capacity top.entries) };
+    ghost invariant = { λ top.
+        IsTableInRoom (record { size = top.size; entries = top.entries.items }) (vec_capacity top.entries) };
 }
 
 impl TopK {
@@ -53,10 +55,13 @@ impl TopK {
         ensures kept { self.new.entries ≡ best self.old.size (with_score self.old.entries key score) }
         ensures size { self.new.size ≡ self.old.size }
         ensures answer { result ≡ answer_of key (drops self.old key score) }
-        ensures none_dropped { (result ≡ Offer.Kept) ↔ (length (with_score self.old.entries key score) ≤ self.old.size) }
-        ensures one_more { length (with_score self.old.entries key score) ≡ length self.old.entries + (if holds self.old.entries key then 0 else 1) }
+        ensures none_dropped { (result ≡ Offer.Kept)
+            ↔ (length (with_score self.old.entries key score) ≤ self.old.size) }
+        ensures one_more { length (with_score self.old.entries key score)
+            ≡ length self.old.entries + (if holds self.old.entries key then 0 else 1) }
         ensures refused { (result ≡ Offer.Refused) ↔ Contains (drops self.old key score) key }
-        ensures dropping { (y : List ℕ) → (result ≡ Offer.KeptDropping y) ↔ ((y ≢ key) × Contains (drops self.old key score) y) }
+        ensures dropping { (y : List ℕ)
+            → (result ≡ Offer.KeptDropping y) ↔ ((y ≢ key) × Contains (drops self.old key score) y) }
         ensures table { IsTable self.new }
     {
         put(&mut self.entries, key, score);

@@ -1,6 +1,6 @@
-use Rattle.std.proofs.Common.{◌/◌, ℕ, take, FitsSigned, w64, ◌∙◌, ap, rules, arith, length-take}
+use Rattle.std.proofs.Common.{◌/◌, ℕ, ℤ, List, take, FitsSigned, w64, ◌∙◌, ap, subst, sym, rules, arith, length-take}
 use Rattle.std.proofs.lemmas.Int.{to_z-of_z}
-use Rattle.count_sketch.specs.Estimate.{estimate, middle}
+use Rattle.count_sketch.specs.Estimate.{IsMiddle, estimate, middle, row_estimates}
 use Rattle.count_sketch.proofs.Estimates.{is_rows-le, is_rows-odd}
 use Rattle.count_sketch.proofs.update_and_estimate.update_and_estimate_in.Goals as goal
 
@@ -11,4 +11,11 @@ pub returns-clause-value : goal.returns-clause-value
 unfolding estimate
 returns-clause-value c =
     let fits : FitsSigned w64 c.middle_of.result = search rules in
-    to_z-of_z w64 _ fits ∙ c.middle_of.ensures ∙ ap middle (ap (λ (n : ℕ). take n c.update_and_fill.new.found) c.from.ensures ∙ c.update_and_fill.ensures.found)
+    to_z-of_z w64 _ fits ∙ c.middle_of.ensures.value ∙ ap middle (ap (λ (n : ℕ). take n c.update_and_fill.new.found) c.from.ensures ∙ c.update_and_fill.ensures.found)
+
+pub returns-clause-middle : goal.returns-clause-middle
+returns-clause-middle c =
+    let fits : FitsSigned w64 c.middle_of.result = search rules in
+    let says = ap (λ (n : ℕ). take n c.update_and_fill.new.found) c.from.ensures ∙ c.update_and_fill.ensures.found in
+    let all = row_estimates c.args.family.now c.args.level c.args.rows c.args.width c.update_and_fill.new.counters c.args.key.now in
+    subst (λ (x : ℤ). IsMiddle all x) (sym (to_z-of_z w64 _ fits)) (subst (λ (xs : List ℤ). IsMiddle xs c.middle_of.result) says c.middle_of.ensures.middle)

@@ -1,7 +1,7 @@
 use Rattle.std.proofs.Common.{◌∙◌, ap}
 use Rattle.sketch_levels.specs.Items.{live_items}
 use Rattle.sketch_levels.specs.Kept.{kept}
-use Rattle.sketch_levels.proofs.Kept.{kept-none, kept-push}
+use Rattle.sketch_levels.proofs.Kept.{kept-none, kept-push, none_dropped, scores}
 use Rattle.sketch_levels.proofs.Live.{live_items-dead, live_items-live, live_items-none}
 use Rattle.sketch_levels.proofs.laws.kept_keys_law.Goals as goal
 
@@ -16,3 +16,9 @@ returns-clause-live c = λ setting level items item live.
 pub returns-clause-dead : goal.returns-clause-dead
 returns-clause-dead c = λ setting level items item dead.
     ap (kept setting level) (live_items-dead setting.seed level items item dead)
+
+pub returns-clause-scores : goal.returns-clause-scores
+returns-clause-scores c = scores
+
+pub returns-clause-all : goal.returns-clause-all
+returns-clause-all c = λ setting level items none. none_dropped setting level (live_items setting.seed level items) none

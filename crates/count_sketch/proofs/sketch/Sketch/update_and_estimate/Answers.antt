@@ -1,8 +1,9 @@
-use Rattle.std.proofs.Common.{◌≡◌, ◌+◌, List, ℤ, sym, ◌∙◌, ap, subst, FitsSigned, w64, rules, arith, ◌^◌}
+use Rattle.std.proofs.Common.{◌≡◌, ◌+◌, List, ℤ, sym, ◌∙◌, ap, subst, FitsSigned, w64, to_z, of_z, rules, arith, ◌^◌}
 use Rattle.std.proofs.lemmas.Int.{to_z-of_z}
 use Rattle.std.proofs.lemmas.List.{with_items_is}
 use Rattle.std.specs.Vec.{with_items}
 use Rattle.count_sketch.specs.Counters.{Item, Grid, plus, AllUpTo}
+use Rattle.count_sketch.specs.Estimate.{IsMiddle, row_estimates}
 use Rattle.count_sketch.specs.Shape.{IsShaped}
 use Rattle.count_sketch.proofs.Estimates.{estimate-upto}
 use Rattle.count_sketch.proofs.Grids.{item_counters, next_grid, next_grid-grid_of, next_grid-upto, IsShaped-next_grid}
@@ -47,3 +48,12 @@ returns-clause-result_bound c = λ n all.
     let fits : FitsSigned w64 c.update_and_estimate_in.result = search rules in
     let low = subst (λ (xs : List ℤ). AllUpTo n xs) (with_items_is old.counters new (omega arith)) all in
     rw (to_z-of_z w64 _ fits, c.update_and_estimate_in.ensures.value) (estimate-upto c.args.family.now c.args.level old.rows old.width new c.args.key.now n low)
+
+pub returns-clause-middle : goal.returns-clause-middle
+returns-clause-middle c =
+    let old = c.self.inside in
+    let new = c.update_and_estimate_in.new.counters in
+    let fits : FitsSigned w64 c.update_and_estimate_in.result = search rules in
+    let put = with_items_is old.counters new (omega arith) in
+    subst (λ (xs : List ℤ). IsMiddle (row_estimates c.args.family.now c.args.level old.rows old.width xs c.args.key.now) (to_z w64 (of_z w64 c.update_and_estimate_in.result))) (sym put)
+    (rw (to_z-of_z w64 _ fits) c.update_and_estimate_in.ensures.middle)

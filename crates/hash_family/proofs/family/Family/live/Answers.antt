@@ -7,7 +7,7 @@ loop-below-init c = is_live-none c.args.self.now c.args.key.now
 
 pub returns-then-not-samples : goal.returns-then-not-samples
 returns-then-not-samples c =
-    sym (dead_from c.args.self.now c.loop-below.below c.args.level c.args.key.now (omega arith) cc)
+    record { value = sym (dead_from c.args.self.now c.loop-below.below c.args.level c.args.key.now (omega arith) cc) }
 
 pub loop-below-preserved : goal.loop-below-preserved
 loop-below-preserved c =

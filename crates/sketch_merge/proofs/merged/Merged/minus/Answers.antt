@@ -12,13 +12,13 @@ view level = level.items
 abbrev keys_view : Vec (List ℕ) Global → List (List ℕ)
 keys_view level = level.items
 
-pub differences-requires-clause-small : goal.differences-requires-clause-small
-differences-requires-clause-small c =
+pub subtracted_levels-requires-clause-small : goal.subtracted_levels-requires-clause-small
+subtracted_levels-requires-clause-small c =
     subst (λ (levels : List (Vec ℤ Global)). All (AllUpTo (2 ^ 44)) (map view levels)) (sym c.deref.ensures.value)
     (subst (λ (v : View). All (AllUpTo (2 ^ 44)) v.counters) (sym c.self.view_is) c.requires.small)
 
-pub differences-requires-clause-other_small : goal.differences-requires-clause-other_small
-differences-requires-clause-other_small c =
+pub subtracted_levels-requires-clause-other_small : goal.subtracted_levels-requires-clause-other_small
+subtracted_levels-requires-clause-other_small c =
     subst (λ (levels : List (Vec ℤ Global)). All (AllUpTo (2 ^ 44)) (map view levels)) (sym c.deref-2.ensures.value)
     (subst (λ (v : View). All (AllUpTo (2 ^ 44)) v.counters) (sym c.other.view_is) c.requires.other_small)
 

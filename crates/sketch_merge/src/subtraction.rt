@@ -1,5 +1,6 @@
 //! Counters less others.
-ghost use Rattle.std.specs.Prelude.{◌≡◌, ℕ, ◌<◌, ◌≤◌, ◌^◌, ◌-ℤ◌, [], map, length, slice_index_or, All, IfOk, unsigned_abs};
+ghost use Rattle.std.specs.Prelude.{◌≡◌, ℕ, ◌<◌, ◌≤◌, ◌^◌, ◌-ℤ◌, [], map, length, slice_index_or};
+ghost use Rattle.std.specs.Prelude.{All, IfOk, unsigned_abs};
 ghost use Rattle.std.specs.Simd.Lanes.{zip2};
 ghost use Rattle.count_sketch.specs.Counters.{AllUpTo, minus};
 
@@ -7,13 +8,14 @@ use mon_io::Memory;
 use std::alloc::Global;
 
 // The counters of each level less those of the same level of the others.
-pub(crate) fn differences(
+pub(crate) fn subtracted_levels(
     alloc: Global,
     levels: &[Vec<i64>],
     others: &[Vec<i64>],
 ) -> Result<Vec<Vec<i64>>, Memory>
     requires number { length levels.now ≡ length others.now }
-    requires shape { (i : ℕ) → i < length levels.now → length (slice_index_or (map (λ level. level.items) levels.now) i [])
+    requires shape { (i : ℕ) → i < length levels.now
+        → length (slice_index_or (map (λ level. level.items) levels.now) i [])
         ≡ length (slice_index_or (map (λ level. level.items) others.now) i []) }
     requires small { All (AllUpTo (2 ^ 44)) (map (λ level. level.items) levels.now) }
     requires other_small { All (AllUpTo (2 ^ 44)) (map (λ level. level.items) others.now) }
@@ -24,7 +26,7 @@ pub(crate) fn differences(
         return Err(Memory);
     };
     for i in 0..levels.len() {
-        let level = difference(alloc, &levels[i], &others[i])?;
+        let level = subtracted(alloc, &levels[i], &others[i])?;
         if all.push(level).is_err() {
             return Err(Memory);
         }
@@ -33,7 +35,7 @@ pub(crate) fn differences(
 }
 
 // The counters less the others, place by place. Absolute values are at most 2^44.
-fn difference(alloc: Global, counters: &[i64], others: &[i64]) -> Result<Vec<i64>, Memory>
+fn subtracted(alloc: Global, counters: &[i64], others: &[i64]) -> Result<Vec<i64>, Memory>
     requires shape { length counters.now ≡ length others.now }
     requires small { AllUpTo (2 ^ 44) counters.now }
     requires other_small { AllUpTo (2 ^ 44) others.now }
@@ -43,7 +45,7 @@ fn difference(alloc: Global, counters: &[i64], others: &[i64]) -> Result<Vec<i64
         return Err(Memory);
     };
     for i in 0..counters.len() {
-        let value = difference_of(counters[i], others[i]);
+        let value = less_by(counters[i], others[i]);
         if less.push(value).is_err() {
             return Err(Memory);
         }
@@ -51,8 +53,9 @@ fn difference(alloc: Global, counters: &[i64], others: &[i64]) -> Result<Vec<i64
     Ok(less)
 }
 
+// The number less the other one.
 #[inline]
-fn difference_of(a: i64, b: i64) -> i64
+fn less_by(a: i64, b: i64) -> i64
     requires first { unsigned_abs a ≤ 2 ^ 44 }
     requires second { unsigned_abs b ≤ 2 ^ 44 }
     ensures value { result ≡ a -ℤ b }

@@ -1,24 +1,24 @@
 use Rattle.std.proofs.Common.{◌≡◌, ◌^◌, ℤ, ◌++◌, [], ◌∷◌, List, Vec, Global, length, sym, ◌∙◌, ap, subst, arith, rules}
 use Rattle.count_sketch.specs.Counters.{AllUpTo, minus}
 use Rattle.sketch_merge.proofs.Zipped.{seen_all, seen_at, seen_more, seen_whole}
-use Rattle.sketch_merge.proofs.difference.differences.Goals as goal
+use Rattle.sketch_merge.proofs.subtraction.subtracted_levels.Goals as goal
 
 abbrev view : Vec ℤ Global → List ℤ
 view level = level.items
 
-pub difference-requires-clause-shape : goal.difference-requires-clause-shape
-difference-requires-clause-shape c =
+pub subtracted-requires-clause-shape : goal.subtracted-requires-clause-shape
+subtracted-requires-clause-shape c =
     ap length (c.deref.ensures.value ∙ sym (seen_at view c.args.levels.now c.loop-i.i c.index-levels-i.result [] (omega arith) c.index-levels-i.is))
     ∙ c.requires.shape c.loop-i.i (omega arith)
     ∙ ap length (seen_at view c.args.others.now c.loop-i.i c.index-others-i.result [] (omega arith) c.index-others-i.is ∙ sym c.deref-in-loop-i.ensures.value)
 
-pub difference-requires-clause-small : goal.difference-requires-clause-small
-difference-requires-clause-small c =
+pub subtracted-requires-clause-small : goal.subtracted-requires-clause-small
+subtracted-requires-clause-small c =
     subst (AllUpTo (2 ^ 44)) (sym c.deref.ensures.value)
     (seen_all (AllUpTo (2 ^ 44)) view c.args.levels.now c.loop-i.i c.index-levels-i.result (omega arith) c.index-levels-i.is c.requires.small)
 
-pub difference-requires-clause-other_small : goal.difference-requires-clause-other_small
-difference-requires-clause-other_small c =
+pub subtracted-requires-clause-other_small : goal.subtracted-requires-clause-other_small
+subtracted-requires-clause-other_small c =
     subst (AllUpTo (2 ^ 44)) (sym c.deref-in-loop-i.ensures.value)
     (seen_all (AllUpTo (2 ^ 44)) view c.args.others.now c.loop-i.i c.index-others-i.result (omega arith) c.index-others-i.is c.requires.other_small)
 

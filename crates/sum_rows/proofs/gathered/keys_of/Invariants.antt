@@ -1,0 +1,10 @@
+use Rattle.std.proofs.Common.{◌≡◌, All, length}
+use Rattle.std.specs.Cmp.Lexicographic.{slice_cmp}
+use Rattle.std.specs.List.Sorted.{IsStrictlySortedBy}
+use Rattle.std.specs.Ordering.{nat_cmp}
+use Rattle.sum_rows.proofs.gathered.keys_of.Given as goal
+
+abbrev pub invariant-loop-level : goal.invariant-loop-level
+invariant-loop-level g l =
+    (length l.keys.items ≡ l.level)
+    × All (λ level. IsStrictlySortedBy (slice_cmp nat_cmp) level.items) l.keys.items
