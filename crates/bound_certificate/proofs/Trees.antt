@@ -1,15 +1,13 @@
 -- Trees, layer by layer.
-use Rattle.std.proofs.Common.{◌≡◌, ℕ, ◌+◌, Bool, true, ◌&&◌, cond, List, [], ◌∷◌, ◌++◌, length, map, refl, sym, ◌∙◌, ap, subst, rules}
+use Rattle.std.proofs.Common.{◌≡◌, ℕ, ◌+◌, Bool, true, ◌&&◌, cond, List, [], ◌∷◌, length, map, refl, sym, ◌∙◌, ap, subst, rules}
 use Rattle.std.specs.Prelude.{sum}
-use Rattle.std.specs.List.{concat, AllByRecursion, list_all}
+use Rattle.std.specs.List.{AllByRecursion, list_all}
 use Rattle.std.proofs.lemmas.Bool.{and_parts}
 use Rattle.std.proofs.lemmas.List.{length-map}
 use Rattle.bound_certificate.specs.Problem.{Problem}
 use Rattle.bound_certificate.specs.Node.{Part, BranchPart, OverPart, HallPart, DualPart, FullPart}
 use Rattle.bound_certificate.specs.Tree.{Visit, part_step, children_step, is_branch, part_of, children_of, below, visits_step, visits}
 use Rattle.bound_certificate.specs.Formed.{branches_step, branches, nodes_step, nodes, is_formed_part, formed_step, is_formed_at}
-use Rattle.bound_certificate.specs.Text.{part_line, lines_step, lines_of}
-use Rattle.bound_certificate.specs.Bytes.{part_bytes, bytes_step, bytes_of}
 use Rattle.bound_certificate.specs.declared.tree.Tree.{Tree}
 use Rattle.bound_certificate.specs.declared.tree.Tree.TheOpen.{Tree-F}
 use Rattle.bound_certificate.specs.declared.tree.Tree.TheFolds.{fold-Tree, map-Tree, fold_out-Tree, ind-Tree}
@@ -136,22 +134,3 @@ tree_induction P step = ind-Tree P (λ x y is.
     let children : map (λ e. e.0) (children_step y) ≡ children_of (roll-Tree x) =
     sym (children_step-map (λ e. e.0) y) ∙ ap children_step is ∙ sym (children_of-roll x) in
     step (roll-Tree x) (subst (λ ts. AllByRecursion P ts) children (all_such P (children_step y))))
-
--- the text and the bytes of a tree, root first
-pub lines_of-out : (tree : Tree) → lines_of tree ≡ part_line (part_of tree) ++ concat (map lines_of (children_of tree))
-unfolding lines_of
-lines_of-out tree =
-    let fold = fold-Tree (List ℕ) lines_step in
-    let layer = map-Tree Tree (List ℕ) fold (out-Tree tree) in
-    fold_out-Tree (List ℕ) lines_step tree
-    ∙ ap (λ (part : Part). part_line part ++ concat (children_step layer)) (part_step-map fold (out-Tree tree))
-    ∙ ap (λ (parts : List (List ℕ)). part_line (part_of tree) ++ concat parts) (children_step-map fold (out-Tree tree))
-
-pub bytes_of-out : (tree : Tree) → bytes_of tree ≡ part_bytes (part_of tree) ++ concat (map bytes_of (children_of tree))
-unfolding bytes_of
-bytes_of-out tree =
-    let fold = fold-Tree (List ℕ) bytes_step in
-    let layer = map-Tree Tree (List ℕ) fold (out-Tree tree) in
-    fold_out-Tree (List ℕ) bytes_step tree
-    ∙ ap (λ (part : Part). part_bytes part ++ concat (children_step layer)) (part_step-map fold (out-Tree tree))
-    ∙ ap (λ (parts : List (List ℕ)). part_bytes (part_of tree) ++ concat parts) (children_step-map fold (out-Tree tree))

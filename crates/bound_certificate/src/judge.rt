@@ -8,13 +8,13 @@ ghost use Rattle.bound_certificate.specs.Formed.{is_formed, is_formed_at};
 ghost use Rattle.bound_certificate.specs.Meaning.{Shows};
 ghost use Rattle.bound_certificate.specs.Outcome.{are_explored, first_fit_cost, is_bound, is_best, is_spent, tree_of, judged, judgement};
 
-use crate::checker::{check, children};
+use crate::checker::check;
 use crate::choices::cost_of;
 use crate::completion::complete;
 use crate::explored::{Rule, is_explored};
 use crate::numbers::Numbers;
 use crate::placement::{Placement, fits};
-use crate::{Outcome, OutcomeFault, Problem, Tree, Verdict};
+use crate::{Outcome, OutcomeFault, Problem, Tree, Verdict, children};
 
 /// What an outcome's tree says where the outcome of a search with this many Branch nodes is right, else the
 /// first fault. Takes no memory. The tree is within its limits, as for `check`.

@@ -23,6 +23,3 @@ mod root;
 mod walk;
 
 pub use root::search;
-
-#[cfg(test)]
-mod tests;
