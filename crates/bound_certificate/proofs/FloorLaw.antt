@@ -1,5 +1,5 @@
 -- The floor never falls on the way down, so that a tree's bound is at least its root's floor.
-use Rattle.std.proofs.Common.{◌≡◌, ℕ, zero, suc, ◌+◌, ◌-◌, ◌≤◌, ◌<◌, Bool, true, false, cond, ◌==◌, ◌||◌, min, List, [], ◌∷◌, ◌++◌, length, map, slice_index, Option, None, Some, ℤ, pos, ◌≤ℤ◌, refl, sym, ◌∙◌, ap, subst, arith, length-append}
+use Rattle.std.proofs.Common.{◌≡◌, ℕ, zero, suc, ◌+◌, ◌-◌, ◌≤◌, ◌<◌, Bool, true, false, cond, ◌==◌, ◌||◌, ◌⊎◌, inl, inr, min, List, [], ◌∷◌, ◌++◌, length, map, slice_index, Option, None, Some, ℤ, pos, ◌≤ℤ◌, refl, sym, ◌∙◌, ap, subst, arith, length-append}
 use Rattle.std.specs.Prelude.{fold, int_le, nat_lt}
 use Rattle.std.specs.Int.{int_min}
 use Rattle.std.specs.List.{AllByRecursion, list_any}
@@ -45,6 +45,28 @@ fold_le f g a b (x ∷ xs) start each = let here = each x in fold_le f g (min a 
 pub least_at : (f : ℕ → ℕ) (xs : List ℕ) (n : ℕ) → n < length xs → least_by f xs ≤ f (slice_index xs n)
 unfolding least_by
 least_at f xs n within = fold_at f (f (slice_index xs 0)) xs n within
+
+-- it is that of a member: the one that was least so far, or a later one
+min_is : (a b : ℕ) → (min a b ≡ a) ⊎ (min a b ≡ b)
+min_is a b = grind arith
+
+fold_one : (f : ℕ → ℕ) (a : ℕ) (xs : List ℕ) → (fold (λ least x. min least (f x)) a xs ≡ a)
+    ⊎ ((n : ℕ) × (n < length xs) × (fold (λ least x. min least (f x)) a xs ≡ f (slice_index xs n)))
+fold_one f a [] = inl refl
+fold_one f a (x ∷ xs) =
+    elim (fold_one f (min a (f x)) xs) [
+      | inl start ↦ elim (min_is a (f x)) [
+        | inl before ↦ inl (start ∙ before)
+        | inr here ↦ inr (0, omega arith, start ∙ here)
+      ]
+      | inr later ↦ inr (suc later.0, omega (arith, later.1), later.2)
+    ]
+
+pub least_one : (f : ℕ → ℕ) (xs : List ℕ) → 0 < length xs
+    → (n : ℕ) × (n < length xs) × (least_by f xs ≡ f (slice_index xs n))
+unfolding least_by
+least_one f xs some =
+    elim (fold_one f (f (slice_index xs 0)) xs) [ inl first ↦ (0, some, first) | inr later ↦ later ]
 
 least_le : (f g : ℕ → ℕ) (xs : List ℕ) → ((x : ℕ) → f x ≤ g x) → least_by f xs ≤ least_by g xs
 unfolding least_by

@@ -1,6 +1,6 @@
 -- What a right outcome shows.
 use Rattle.std.proofs.Common.{◌≡◌, ℕ, ◌-◌, ◌≤◌, ◌<◌, Bool, true, false, cond, ◌==◌, ◌&&◌, ◌||◌, ◌⊎◌, inl, inr, List, [], map, Option, None, Some, Result, Ok, Err, ℤ, pos, ◌≤ℤ◌, refl, sym, ◌∙◌, ap, subst, arith}
-use Rattle.std.specs.Prelude.{not, is_some, is_none, IfOk, IsTrue}
+use Rattle.std.specs.Prelude.{not, is_some, is_none, is_ok, nat_lt, IfOk, IsTrue}
 use Rattle.std.specs.Ordering.{int_eq}
 use Rattle.std.specs.Option.{option_map}
 use Rattle.std.proofs.lemmas.Bool.{and_parts, eqb-true}
@@ -11,11 +11,13 @@ use Rattle.bound_certificate.specs.Placement.{cost, fits, completed, first_fit}
 use Rattle.bound_certificate.specs.Node.{is_over}
 use Rattle.bound_certificate.specs.Tree.{Visit, part_of, children_of, below, visits, first_fault, bound_of, branches_of, verdict_of}
 use Rattle.bound_certificate.specs.Bound.{IsBelow}
-use Rattle.bound_certificate.specs.Outcome.{completion, is_no_better, is_beaten, is_tight, is_explored, are_explored, first_fit_cost, is_bound, is_best, is_spent, tree_of, judged}
+use Rattle.bound_certificate.specs.Formed.{is_formed}
+use Rattle.bound_certificate.specs.Outcome.{completion, is_no_better, is_beaten, is_tight, is_explored, are_explored, first_fit_cost, is_bound, is_best, is_spent, tree_of, judged, unless_faulty, judgement, is_faultless, is_right}
 use Rattle.bound_certificate.specs.Whole.{whole}
 use Rattle.bound_certificate.specs.Meaning.{IsPlaced, IsLeft, Shows}
 use Rattle.bound_certificate.specs.declared.tree.Tree.{Tree}
 use Rattle.bound_certificate.specs.declared.verdict.Verdict.{Verdict}
+use Rattle.bound_certificate.specs.declared.verdict.TreeFault.{TreeFault}
 use Rattle.bound_certificate.specs.declared.outcome.Outcome.{Outcome}
 use Rattle.bound_certificate.specs.declared.outcome.Outcome.TheVariants.{Placed, Infeasible, Spent}
 use Rattle.bound_certificate.specs.declared.outcome.OutcomeFault.{OutcomeFault}
@@ -152,3 +154,61 @@ shows p n (Spent tree) verdict within none right =
 pub shows_if_ok : (p : Problem) (n : ℕ) (outcome : Outcome) (result : Result Verdict OutcomeFault) → IsWithin p.sites p.needs → first_fault p 0 (visits p (tree_of outcome) []) ≡ None → result ≡ judged p n (visits p (tree_of outcome) []) outcome → IfOk result (Shows p n outcome)
 shows_if_ok p n outcome (Ok verdict) within none right = shows p n outcome verdict within none right
 shows_if_ok p n outcome (Err fault) within none right = tt
+
+-- what is judged to be right
+unless_ok : (found : Option TreeFault) (many : Bool) (rest : Result Verdict OutcomeFault) (verdict : Verdict)
+    → unless_faulty found many rest ≡ Ok verdict → (found ≡ None) × (rest ≡ Ok verdict)
+unless_ok (Some fault) many rest verdict is = cc
+unless_ok None true rest verdict is = cc
+unless_ok None false rest verdict is = (refl, is)
+
+pub judged_shows : (p : Problem) (n : ℕ) (outcome : Outcome) (verdict : Verdict) → IsWithin p.sites p.needs
+    → judgement p n outcome ≡ Ok verdict → Shows p n outcome verdict
+unfolding judgement
+judged_shows p n outcome verdict within is =
+    let vs = visits p (tree_of outcome) [] in
+    let parts = unless_ok (first_fault p 0 vs) (nat_lt n (branches_of vs)) (judged p n vs outcome) verdict is in
+    shows p n outcome verdict within parts.0 (sym parts.1)
+
+-- with the verdict of its tree
+judged_verdict : (p : Problem) (n : ℕ) (vs : List Visit) (outcome : Outcome) (verdict : Verdict)
+    → Ok verdict ≡ judged p n vs outcome → verdict ≡ verdict_of p vs
+unfolding judged
+judged_verdict p n vs (Placed placement tree) verdict is =
+    let best = is_best p n vs (cost p placement.sites) in
+    let rest : Result Verdict OutcomeFault = cond best (Ok (verdict_of p vs)) (Err Bound) in
+    (is_ok_then best (verdict_of p vs) Bound verdict (not_err (not (fits p placement.sites)) DoesNotFit rest verdict is).1).1
+judged_verdict p n vs (Infeasible tree) verdict is =
+    (is_ok_then (is_none (bound_of p vs)) (verdict_of p vs) Bound verdict is).1
+judged_verdict p n vs (Spent tree) verdict is = (is_ok_then (is_spent p n vs) (verdict_of p vs) Bound verdict is).1
+
+ok_is : {T E : Type 0} (r : Result T E) → is_ok r ≡ true → (x : T) × (r ≡ Ok x)
+ok_is (Ok x) ok = (x, refl)
+ok_is (Err e) ok = cc
+
+pub right_formed : (p : Problem) (n : ℕ) (outcome : Outcome) → is_right p n outcome ≡ true
+    → is_formed (tree_of outcome) ≡ true
+unfolding is_right
+right_formed p n outcome right =
+    (and_parts (is_formed (tree_of outcome)) (is_faultless p n outcome) right).0
+
+pub right_judged : (p : Problem) (n : ℕ) (outcome : Outcome) → is_right p n outcome ≡ true
+    → judgement p n outcome ≡ Ok (verdict_of p (visits p (tree_of outcome) []))
+unfolding is_right is_faultless judgement
+right_judged p n outcome right =
+    let vs = visits p (tree_of outcome) [] in
+    let ok = (and_parts (is_formed (tree_of outcome)) (is_ok (judgement p n outcome)) right).1 in
+    let found = ok_is (judgement p n outcome) ok in
+    let parts = unless_ok (first_fault p 0 vs) (nat_lt n (branches_of vs)) (judged p n vs outcome) found.0 found.1 in
+    found.1 ∙ ap Ok (judged_verdict p n vs outcome found.0 (sym parts.1))
+
+pub right_shows : (p : Problem) (n : ℕ) (outcome : Outcome) → IsWithin p.sites p.needs → is_right p n outcome ≡ true
+    → Shows p n outcome (verdict_of p (visits p (tree_of outcome) []))
+right_shows p n outcome within right =
+    judged_shows p n outcome (verdict_of p (visits p (tree_of outcome) [])) within (right_judged p n outcome right)
+
+-- a tree within its limits makes a faultless judgement a right outcome
+pub right_where_formed : (p : Problem) (n : ℕ) (outcome : Outcome) (result : Result Verdict OutcomeFault)
+    → is_formed (tree_of outcome) ≡ true → result ≡ judgement p n outcome → is_ok result ≡ is_right p n outcome
+unfolding is_right is_faultless
+right_where_formed p n outcome result formed is = rw formed (ap is_ok is)

@@ -1,12 +1,12 @@
 //! The judgement of an outcome: its tree, node by node once more, and what it says.
-ghost use Rattle.std.specs.Prelude.{◌≡◌, ◌≤◌, ◌<◌, ◌+◌, ◌^◌, ℕ, List, [], None, Some, length, map, IsTrue, IfOk, IfErr, IsOk, pos, is_some, Ok, Err, ◌||◌, ◌&&◌, ◌==◌, if◌then◌else◌};
+ghost use Rattle.std.specs.Prelude.{◌≡◌, ◌≤◌, ◌<◌, ◌+◌, ◌^◌, ℕ, List, [], None, Some, length, map, IsTrue, IfOk, IfErr, pos, is_some, is_ok, Ok, Err, ◌||◌, ◌&&◌, ◌==◌, if◌then◌else◌};
 ghost use Rattle.std.specs.List.{list_all};
 ghost use Rattle.bound_certificate.specs.Problem.{need_count, via};
 ghost use Rattle.bound_certificate.specs.Placement.{AreChoices, cost, fits};
 ghost use Rattle.bound_certificate.specs.Tree.{children_of, visits, below, first_fault, bound_of, branches_of, verdict_of};
 ghost use Rattle.bound_certificate.specs.Formed.{is_formed, is_formed_at};
 ghost use Rattle.bound_certificate.specs.Meaning.{Shows};
-ghost use Rattle.bound_certificate.specs.Outcome.{are_explored, first_fit_cost, is_bound, is_best, is_spent, tree_of, judged, judgement};
+ghost use Rattle.bound_certificate.specs.Outcome.{are_explored, first_fit_cost, is_bound, is_best, is_spent, tree_of, judged, judgement, is_right};
 
 use crate::checker::check;
 use crate::choices::cost_of;
@@ -30,12 +30,22 @@ use crate::{Outcome, OutcomeFault, Problem, Tree, Verdict, children};
 ///   below first fit's cost if there is one, and the bound is the placement's cost or all Branch nodes were
 ///   spent. Spent is right where there is a bound, no node has a completion, each Dual leaf's value is at least
 ///   its floor, and all Branch nodes were spent.
-#[tactic(auto, unfolding(crate::specs::Outcome::judgement, crate::specs::Tree::verdict_of))]
 pub fn check_outcome(
     problem: &Problem,
     nodes: u32,
     outcome: &Outcome,
 ) -> Result<Verdict, OutcomeFault>
+    requires { IsTrue (is_formed (tree_of outcome.now)) }
+    ensures judged { result ≡ judgement problem.now nodes outcome.now }
+    ensures right { is_ok result ≡ is_right problem.now nodes outcome.now }
+    ensures shows { IfOk result (Shows problem.now nodes outcome.now) }
+{
+    judgement(problem, nodes, outcome)
+}
+
+// The judgement of an outcome.
+#[tactic(auto, unfolding(crate::specs::Outcome::judgement, crate::specs::Tree::verdict_of))]
+fn judgement(problem: &Problem, nodes: u32, outcome: &Outcome) -> Result<Verdict, OutcomeFault>
     requires { IsTrue (is_formed (tree_of outcome.now)) }
     ensures judged { result ≡ judgement problem.now nodes outcome.now }
     ensures shows { IfOk result (Shows problem.now nodes outcome.now) }

@@ -8,7 +8,8 @@
 //! - `tree`, `formed`: `Tree`, and its limits as a test
 //! - `hall`, `dual`, `node`: the test of one node; `tally`, `checker`: `check`, of a whole tree, which gives a
 //!   `verdict`
-//! - `outcome`, `floors`, `explored`, `judge`: what a search found, and `check_outcome`, which judges it
+//! - `outcome`, `floors`, `explored`, `judge`: what a search found, and `check_outcome`, which judges it; `laws`: what
+//!   holds of every tree and every outcome
 //!
 //! `specs/Placement.antt` says cost and fitting as sums over needs and sites, `specs/Node.antt` when a node is
 //! wrong, `specs/Tree.antt` a tree as the list of its nodes in preorder, and `specs/Outcome.antt` which outcome is
@@ -25,6 +26,7 @@ mod floors;
 mod formed;
 mod hall;
 mod judge;
+mod laws;
 mod need;
 mod node;
 mod numbers;
@@ -45,6 +47,7 @@ pub use floors::floor_by;
 pub use formed::{are_names, is_formed};
 pub use hall::{is_crowded, is_hall_set, later};
 pub use judge::check_outcome;
+pub use laws::{bounds_are_below, least_is_reached, right_outcomes_show};
 pub use need::Need;
 pub use node::is_over;
 pub use numbers::{Numbers, has};

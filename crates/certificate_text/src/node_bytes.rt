@@ -18,8 +18,8 @@ ghost use Rattle.certificate_text.specs.ReadNode.{
 };
 
 use crate::fault::TreeBytesFault;
-use bound_certificate::are_names;
 use crate::node_head::NodeHead;
+use bound_certificate::are_names;
 use sqlite_items::Items;
 use std::alloc::Global;
 

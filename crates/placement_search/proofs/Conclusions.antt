@@ -14,7 +14,7 @@ use Rattle.bound_certificate.specs.Node.{Part, HallPart, later, is_crowded, is_h
 use Rattle.bound_certificate.specs.Tree.{Visit, children_of, visits, below, first_fault, bound_of, branches_of, verdict_of}
 use Rattle.bound_certificate.specs.Bound.{IsBelow}
 use Rattle.bound_certificate.specs.Formed.{branches, is_formed_at, is_formed}
-use Rattle.bound_certificate.specs.Outcome.{are_explored, is_no_better, first_fit_cost, is_bound, is_best, is_spent, tree_of, judged, judgement, is_right}
+use Rattle.bound_certificate.specs.Outcome.{are_explored, is_no_better, first_fit_cost, is_bound, is_best, is_spent, tree_of, judged, judgement, is_faultless, is_right}
 use Rattle.bound_certificate.specs.Whole.{whole}
 use Rattle.bound_certificate.specs.Meaning.{Shows}
 use Rattle.bound_certificate.specs.declared.tree.Tree.{Tree}
@@ -22,10 +22,10 @@ use Rattle.bound_certificate.specs.declared.tree.Tree.TheVariants.{Hall}
 use Rattle.bound_certificate.specs.declared.verdict.Verdict.{Verdict}
 use Rattle.bound_certificate.specs.declared.outcome.Outcome.{Outcome}
 use Rattle.bound_certificate.specs.declared.outcome.Outcome.TheVariants.{Placed, Infeasible, Spent}
-use Rattle.bound_certificate.specs.declared.outcome.OutcomeFault.TheVariants.{Placement as DoesNotFit, Bound, Branches}
+use Rattle.bound_certificate.specs.declared.outcome.OutcomeFault.TheVariants.{Placement as DoesNotFit, Bound}
 use Rattle.bound_certificate.proofs.Trees.{visits-out, is_formed_at-out, branches-out, part_of-Hall, children_of-Hall}
 use Rattle.bound_certificate.proofs.WeakDuality.{weak_duality}
-use Rattle.bound_certificate.proofs.Meanings.{shows}
+use Rattle.bound_certificate.proofs.Meanings.{right_shows}
 use Rattle.placement_search.specs.declared.progress.Progress.{Progress}
 use Rattle.placement_search.specs.Kept.{IsCostOf, reaches}
 use Rattle.placement_search.specs.Leaf.{IsCrowd}
@@ -51,12 +51,12 @@ pub some_bound_of : (p : Problem) (vs : List Visit) (verdict : Verdict) → verd
 unfolding verdict_of
 some_bound_of p vs verdict is some = some_where_some (bound_of p vs) (sym (ap (λ (v : Verdict). is_some v.bound) is) ∙ some)
 
--- a right outcome, by its tree and what it says
+-- a judgement without a fault, by the tree and what the outcome says
 not_more : (m n : ℕ) → m ≤ n → nat_lt n m ≡ false
 not_more m n h = grind (arith, nat_tests)
 
-right_from : (p : Problem) (n : ℕ) (outcome : Outcome) → first_fault p 0 (visits p (tree_of outcome) []) ≡ None → branches_of (visits p (tree_of outcome) []) ≤ n → is_ok (judged p n (visits p (tree_of outcome) []) outcome) ≡ true → is_right p n outcome ≡ true
-unfolding is_right judgement
+right_from : (p : Problem) (n : ℕ) (outcome : Outcome) → first_fault p 0 (visits p (tree_of outcome) []) ≡ None → branches_of (visits p (tree_of outcome) []) ≤ n → is_ok (judged p n (visits p (tree_of outcome) []) outcome) ≡ true → is_faultless p n outcome ≡ true
+unfolding is_faultless judgement
 right_from p n outcome none few right =
     let vs = visits p (tree_of outcome) [] in
     rw (none, not_more (branches_of vs) n few) right
@@ -69,13 +69,13 @@ ok_past : {T E : Type 0} (b : Bool) (e : E) (r : Result T E) → b ≡ true → 
 ok_past true e r h k = k
 ok_past false e r h k = cc
 
-infeasible_right : (p : Problem) (n : ℕ) (tree : Tree) → first_fault p 0 (visits p tree []) ≡ None → branches_of (visits p tree []) ≤ n → is_none (bound_of p (visits p tree [])) ≡ true → is_right p n (Infeasible tree) ≡ true
+infeasible_right : (p : Problem) (n : ℕ) (tree : Tree) → first_fault p 0 (visits p tree []) ≡ None → branches_of (visits p tree []) ≤ n → is_none (bound_of p (visits p tree [])) ≡ true → is_faultless p n (Infeasible tree) ≡ true
 unfolding judged
 infeasible_right p n tree none few bound =
     right_from p n (Infeasible tree) none few (ok_where (is_none (bound_of p (visits p tree []))) (verdict_of p (visits p tree [])) Bound bound)
 
 spent_right : (p : Problem) (n : ℕ) (tree : Tree) → first_fault p 0 (visits p tree []) ≡ None → branches_of (visits p tree []) ≡ n → is_some (bound_of p (visits p tree [])) ≡ true → are_explored p None None (visits p tree []) ≡ true
-    → is_right p n (Spent tree) ≡ true
+    → is_faultless p n (Spent tree) ≡ true
 unfolding judged is_spent
 spent_right p n tree none all bound explored =
     let vs = visits p tree [] in
@@ -84,7 +84,7 @@ spent_right p n tree none all bound explored =
     right_from p n (Spent tree) none (omega arith) (ok_where (is_spent p n vs) (verdict_of p vs) Bound spent)
 
 placed_right : (p : Problem) (n : ℕ) (sites : List ℕ) (tree : Tree) → first_fault p 0 (visits p tree []) ≡ None → branches_of (visits p tree []) ≤ n → fits p sites ≡ true → is_best p n (visits p tree []) (cost p sites) ≡ true
-    → is_right p n (Placed (record { sites = sites }) tree) ≡ true
+    → is_faultless p n (Placed (record { sites = sites }) tree) ≡ true
 unfolding judged
 placed_right p n sites tree none few fit best =
     let vs = visits p tree [] in
@@ -124,7 +124,7 @@ not_none None h = cc
 not_none (Some b) h = refl
 
 unplaced_right : (p : Problem) (n left : ℕ) (tree : Tree) → first_fault p 0 (visits p tree []) ≡ None → are_explored p None (first_fit_cost p) (visits p tree []) ≡ true → branches_of (visits p tree []) + left ≡ n
-    → (0 < left → reaches None (bound_of p (visits p tree [])) ≡ true) → is_no_better None (first_fit_cost p) ≡ true → is_right p n (unplaced p tree) ≡ true
+    → (0 < left → reaches None (bound_of p (visits p tree [])) ≡ true) → is_no_better None (first_fit_cost p) ≡ true → is_faultless p n (unplaced p tree) ≡ true
 unfolding unplaced
 unplaced_right p n left tree none explored spent closed begun =
     let vs = visits p tree [] in
@@ -141,7 +141,7 @@ unfolding is_best
 best_from p n vs c explored ends = both (are_explored p (Some c) (first_fit_cost p) vs) (is_bound (bound_of p vs) c || branches_of vs == n) explored ends
 
 concluded_by : (p : Problem) (n left : ℕ) (best : Option ℕ) (sites : List ℕ) (tree : Tree) → IsWithin p.sites p.needs → first_fault p 0 (visits p tree []) ≡ None → are_explored p best (first_fit_cost p) (visits p tree []) ≡ true
-    → branches_of (visits p tree []) + left ≡ n → (0 < left → reaches best (bound_of p (visits p tree [])) ≡ true) → IfSome best (IsCostOf p sites) → is_no_better best (first_fit_cost p) ≡ true → is_right p n (concluded p best sites tree) ≡ true
+    → branches_of (visits p tree []) + left ≡ n → (0 < left → reaches best (bound_of p (visits p tree [])) ≡ true) → IfSome best (IsCostOf p sites) → is_no_better best (first_fit_cost p) ≡ true → is_faultless p n (concluded p best sites tree) ≡ true
 unfolding concluded
 concluded_by p n left None sites tree within none explored spent closed kept begun = unplaced_right p n left tree none explored spent closed begun
 concluded_by p n left (Some c) sites tree within none explored spent closed kept begun =
@@ -154,7 +154,7 @@ concluded_by p n left (Some c) sites tree within none explored spent closed kept
     ] in
     placed_right p n sites tree none (omega arith) kept.placed (subst (λ (k : ℕ). is_best p n vs k ≡ true) kept.value (best_from p n vs c explored ends))
 
-pub concluded_right : (p : Problem) (n : ℕ) (before after : Progress) (tree : Tree) → IsWithin p.sites p.needs → before.left ≡ n → IsTreeSearched p [] before after tree → is_right p n (concluded p after.cost after.sites tree) ≡ true
+concluded_right : (p : Problem) (n : ℕ) (before after : Progress) (tree : Tree) → IsWithin p.sites p.needs → before.left ≡ n → IsTreeSearched p [] before after tree → is_faultless p n (concluded p after.cost after.sites tree) ≡ true
 concluded_right p n before after tree within all searched =
     concluded_by p n after.left after.cost after.sites tree within searched.nodes.faultless searched.nodes.explored (searched.nodes.spent ∙ all) searched.nodes.closed searched.nodes.kept.best searched.nodes.kept.begun
 
@@ -190,7 +190,7 @@ hall_visits p names =
     ∙ ap (λ (part : Part). record { choices = []; part = part } ∷ below p [] 0 (map (visits p) (children_of (Hall names)))) (part_of-Hall names)
     ∙ ap (λ (ts : List Tree). record { choices = []; part = HallPart names } ∷ below p [] 0 (map (visits p) ts)) (children_of-Hall names)
 
-pub crowd_right : (p : Problem) (n : ℕ) (names : List ℕ) → 0 < need_count p → IsCrowd p [] names → is_right p n (Infeasible (Hall names)) ≡ true
+crowd_right : (p : Problem) (n : ℕ) (names : List ℕ) → 0 < need_count p → IsCrowd p [] names → is_faultless p n (Infeasible (Hall names)) ≡ true
 unfolding first_fault bound_of branches_of
 crowd_right p n names some crowd =
     let vs = hall_visits p names in
@@ -207,30 +207,34 @@ crowd_faultless p names some crowd =
 both_refl : {a : Bool} → a ≡ true → (a && true) ≡ true
 both_refl {a} h = both a true h refl
 
-pub crowd_formed : (p : Problem) (names : List ℕ) → IsWithin p.sites p.needs → IsCrowd p [] names → is_formed (Hall names) ≡ true
+crowd_formed : (p : Problem) (names : List ℕ) → IsWithin p.sites p.needs → IsCrowd p [] names → is_formed (Hall names) ≡ true
 unfolding is_formed
 crowd_formed p names within crowd =
     let at : is_formed_at (Hall names) 0 ≡ true = is_formed_at-out (Hall names) 0 ∙ rw (part_of-Hall names, children_of-Hall names) (both_refl (formed_hall p [] names within crowd)) in
     let none : branches (Hall names) ≡ 0 = branches-out (Hall names) ∙ rw (part_of-Hall names, children_of-Hall names) refl in
     both (is_formed_at (Hall names) 0) (nat_le (branches (Hall names)) 4096) at (le-leb (branches (Hall names)) 4096 (omega (arith, none)))
 
+-- a right outcome has a tree within its limits, and its judgement has no fault
+right_of : (p : Problem) (n : ℕ) (outcome : Outcome) → is_formed (tree_of outcome) ≡ true
+    → is_faultless p n outcome ≡ true → is_right p n outcome ≡ true
+unfolding is_right
+right_of p n outcome formed faultless = both (is_formed (tree_of outcome)) (is_faultless p n outcome) formed faultless
+
+pub concluded_is_right : (p : Problem) (n : ℕ) (before after : Progress) (tree : Tree) → IsWithin p.sites p.needs
+    → before.left ≡ n → n ≤ 4096 → IsTreeSearched p [] before after tree
+    → is_right p n (concluded p after.cost after.sites tree) ≡ true
+concluded_is_right p n before after tree within all few searched =
+    right_of p n (concluded p after.cost after.sites tree)
+    (ap is_formed (tree_of-concluded p after.cost after.sites tree) ∙ formed_searched p n before after tree all few searched)
+    (concluded_right p n before after tree within all searched)
+
+pub crowd_is_right : (p : Problem) (n : ℕ) (names : List ℕ) → IsWithin p.sites p.needs → IsCrowd p [] names
+    → is_right p n (Infeasible (Hall names)) ≡ true
+crowd_is_right p n names within crowd =
+    right_of p n (Infeasible (Hall names)) (crowd_formed p names within crowd)
+    (crowd_right p n names (omega (arith, within.some_needs)) crowd)
+
 -- a right outcome with more Branch nodes than a tree can have
-ok_of : {T E : Type 0} (b : Bool) (y : T) (e : E) (x : T) → Ok x ≡ cond {A = Result T E} b (Ok y) (Err e) → x ≡ y
-ok_of true y e x h = cc
-ok_of false y e x h = cc
-
-ok_past_err : {T E : Type 0} (b : Bool) (e : E) (r : Result T E) (x : T) → Ok x ≡ cond b (Err e) r → Ok x ≡ r
-ok_past_err true e r x h = cc
-ok_past_err false e r x h = h
-
-judged_verdict : (p : Problem) (n : ℕ) (vs : List Visit) (outcome : Outcome) (verdict : Verdict) → Ok verdict ≡ judged p n vs outcome → verdict ≡ verdict_of p vs
-unfolding judged
-judged_verdict p n vs (Placed placement tree) verdict is =
-    ok_of (is_best p n vs (cost p placement.sites)) (verdict_of p vs) Bound verdict
-    (ok_past_err (not (fits p placement.sites)) DoesNotFit (cond (is_best p n vs (cost p placement.sites)) (Ok (verdict_of p vs)) (Err Bound)) verdict is)
-judged_verdict p n vs (Infeasible tree) verdict is = ok_of (is_none (bound_of p vs)) (verdict_of p vs) Bound verdict is
-judged_verdict p n vs (Spent tree) verdict is = ok_of (is_spent p n vs) (verdict_of p vs) Bound verdict is
-
 bound_from : (p : Problem) (vs : List Visit) (verdict : Verdict) → verdict ≡ verdict_of p vs → bound_of p vs ≡ verdict.bound
 unfolding verdict_of
 bound_from p vs verdict is = sym (ap (λ (v : Verdict). v.bound) is)
@@ -242,20 +246,7 @@ shown_settled p n (Placed placement tree) verdict few is shown =
 shown_settled p n (Infeasible tree) verdict few is shown = shown
 shown_settled p n (Spent tree) verdict few is shown = absurd (omega (arith, shown.few))
 
-ok_judged : {T E : Type 0} (many : Bool) (e : E) (r : Result T E) → is_ok (cond many (Err e) r) ≡ true → is_ok r ≡ true
-ok_judged true e r h = cc
-ok_judged false e r h = h
-
-judged_ok : (p : Problem) (n : ℕ) (outcome : Outcome) → first_fault p 0 (visits p (tree_of outcome) []) ≡ None → is_right p n outcome ≡ true → is_ok (judged p n (visits p (tree_of outcome) []) outcome) ≡ true
-unfolding is_right judgement
-judged_ok p n outcome none right =
-    let vs = visits p (tree_of outcome) [] in
-    ok_judged (nat_lt n (branches_of vs)) Branches (judged p n vs outcome) (rw none at right)
-
-pub right_settled : (p : Problem) (n : ℕ) (outcome : Outcome) → IsWithin p.sites p.needs → first_fault p 0 (visits p (tree_of outcome) []) ≡ None → is_right p n outcome ≡ true → whole p < n → IsSettled p outcome
-right_settled p n outcome within none right few =
-    let vs = visits p (tree_of outcome) [] in
-    elim (judged p n vs outcome) as (λ result. judged p n vs outcome ≡ result → is_ok result ≡ true → IsSettled p outcome) [
-      | Ok verdict ↦ λ is ok. shown_settled p n outcome verdict few (judged_verdict p n vs outcome verdict (sym is)) (shows p n outcome verdict within none (sym is))
-      | Err fault ↦ λ is ok. cc
-    ] refl (judged_ok p n outcome none right)
+pub right_settled : (p : Problem) (n : ℕ) (outcome : Outcome) → IsWithin p.sites p.needs
+    → is_right p n outcome ≡ true → whole p < n → IsSettled p outcome
+right_settled p n outcome within right few =
+    shown_settled p n outcome (verdict_of p (visits p (tree_of outcome) [])) few refl (right_shows p n outcome within right)

@@ -9,7 +9,6 @@ ghost use Rattle.placement_search.specs.Leaf.{IsFloorDual, IsDual};
 
 use crate::ascent::Ascent;
 use crate::capacity_prices::CapacityPrices;
-
 use bound_certificate::{Problem, dual_breach, dual_value, floor_by};
 use mon_io::Memory;
 use sqlite_items::Items;
