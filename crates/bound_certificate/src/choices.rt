@@ -89,6 +89,7 @@ fn served_by(problem: &Problem, choices: &[u8], need: usize) -> u64
     ensures bound { result ≤ 4294836225 }
     ensures few { need_count problem.now ≤ 64 }
 {
+    // Its sites are numbers of sites, and so is the choice.
     let _via = problem.via(need);
     problem.service(usize::from(choices[need]), need)
 }

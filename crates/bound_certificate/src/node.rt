@@ -66,6 +66,7 @@ pub fn is_over(problem: &Problem, choices: &[u8]) -> bool
         return false;
     }
     let last = choices.len() - 1;
+    // Its sites are numbers of sites, and so is the choice.
     let _via = problem.via(last);
     !is_within_capacity(problem, choices, choices[last])
 }

@@ -95,7 +95,7 @@ hall_apart (Hall names) may =
 hall_apart (Dual lambda mu) may = absurd (omega (arith, may.kind_is))
 hall_apart Full may = absurd (omega (arith, may.kind_is))
 
-both_true : (a b : Bool) → a ≡ true → b ≡ true → (a && b) ≡ true
+pub both_true : (a b : Bool) → a ≡ true → b ≡ true → (a && b) ≡ true
 both_true a b x y = ap₂ (λ p q. p && q) x y
 
 pub row_hall : Row (Between 0 64) AreNames (HasKind 2) one_byte (λ names. names) head_body (λ c names. Hall names)
@@ -248,7 +248,7 @@ least_of d b deep left = ap (λ (t : Bool). cond {A = ℕ} t 0 1) (both_true (na
 branch_left : (d b : ℕ) → least_kind d b ≤ 0 → (d < 64) × (0 < b)
 branch_left d b low = (grind (arith, low), grind (arith, low))
 
-least-le : (d b : ℕ) → least_kind d b ≤ 1
+pub least-le : (d b : ℕ) → least_kind d b ≤ 1
 least-le d b = grind arith
 
 head_fits : (d b kind : ℕ) (head : NodeHead) → Between (least_kind d b) 4 kind → HasKind kind head → FitsAt d b head

@@ -253,3 +253,11 @@ bytes_alone bytes one other first second =
       | inl memory ↦ inl memory
       | inr rest ↦ elim rest [ inl memory ↦ absurd (subst (ReadsBytes bytes) memory second) | inr same ↦ inr same ]
     ]
+
+pub bytes_once : (bytes : List ℕ) (one other : Result (Tree × ℕ) TreeBytesFault) → ReadsBytes bytes one
+    → ReadsBytes bytes other → one ≡ other
+bytes_once bytes one other first second =
+    elim (bytes_alone bytes one other (bytes_read bytes one first) second) [
+      | inl memory ↦ absurd (subst (ReadsBytes bytes) memory first)
+      | inr same ↦ same
+    ]

@@ -20,3 +20,6 @@ pub mod Breaking
 pub mod TextReading
 pub mod TextSizes
 pub mod RootFirst
+pub mod ByteAnswers
+pub mod LineAnswers
+pub mod TextAnswers

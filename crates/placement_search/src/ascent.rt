@@ -115,7 +115,6 @@ impl Ascent {
             return false;
         }
         self.press(problem, need, step);
-        let _count = problem.need_count();
         self.levels[need] = self.levels[need].saturating_add(step);
         true
     }
@@ -123,11 +122,12 @@ impl Ascent {
     // How far the lambda of a need can rise: to the next cost, and as the sites' limits allow.
     fn step(&self, problem: &Problem, need: usize) -> u64
         requires { need < need_count problem.now }
+        ensures few { need_count problem.now ≤ 64 }
     {
-        let _count = problem.site_count();
+        let via = problem.via(need);
         let level = self.levels[need];
         let mut step = u64::MAX;
-        for site in problem.via(need) {
+        for site in via {
             let price = cost(problem, &self.prices, *site, need);
             if level < price {
                 step = step.min(price - level);
@@ -142,9 +142,9 @@ impl Ascent {
     fn press(&mut self, problem: &Problem, need: usize, step: u64)
         requires { need < need_count problem.now }
     {
-        let _count = problem.site_count();
+        let via = problem.via(need);
         let level = self.levels[need];
-        for site in problem.via(need) {
+        for site in via {
             if cost(problem, &self.prices, *site, need) <= level {
                 let left = self.slack[usize::from(*site)];
                 self.slack[usize::from(*site)] = left.saturating_sub(step);

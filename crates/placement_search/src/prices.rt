@@ -33,8 +33,6 @@ pub fn prices_at(
     requires { AreChoices problem.now choices.now }
     ensures dual { IfOk result (λ prices. IsDual problem.now choices.now prices.lambda prices.mu) }
 {
-    // Its sites are within their limits, so that each via names one of them.
-    let _sites = problem.sites();
     let floor = floor_dual(alloc, problem, choices)?;
     let free = CapacityPrices::none();
     let raised = better_prices(alloc, problem, choices, &free, floor)?;

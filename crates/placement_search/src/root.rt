@@ -35,8 +35,6 @@ pub fn search(alloc: Global, problem: &Problem, nodes: u32) -> Result<Outcome, M
     ensures overloaded { IsTrue (is_overloaded problem.now)
         → IfOk result (λ outcome. outcome ≡ Outcome.Infeasible (Tree.Hall (later problem.now 0))) }
 {
-    // Its sites are within their limits, so that each via names one of them.
-    let _sites = problem.sites();
     let all = later(problem, 0);
     if is_crowded(problem, &[], all.as_slice()) {
         return crowded_out(alloc, &all);

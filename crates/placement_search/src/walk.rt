@@ -1,7 +1,7 @@
 //! A guess at a good placement: a walk among neighbouring choices, which may step up in cost by less and less
 //! (threshold accepting, Dueck and Scheuer 1990). How good it is isn't claimed: what it finds is tested before it is
 //! taken.
-ghost use Rattle.std.specs.Prelude.{◌≡◌, None, IfSome, length};
+ghost use Rattle.std.specs.Prelude.{◌≡◌, ◌<◌, None, IfSome, length};
 ghost use Rattle.bound_certificate.specs.Problem.{need_count};
 
 use crate::loads::{Loads, Price};
@@ -110,12 +110,12 @@ impl Walker {
     fn drawn(&self, problem: &Problem, draws: &mut Xoshiro256PlusPlus) -> Option<Step> {
         let need = below(draws, problem.need_count());
         let other = below(draws, problem.need_count());
-        let to = drawn_site(problem, draws, need)?;
+        let to = drawn_site(problem, draws, need);
         let from = self.loads.site(need);
         if to == from {
             return None;
         }
-        let goes_back = self.loads.site(other) == to && has(via_of(problem, other), from);
+        let goes_back = self.loads.site(other) == to && has(problem.via(usize::from(other)), from);
         Some(Step {
             need,
             from,
@@ -151,26 +151,19 @@ impl Walker {
     }
 }
 
-// The sites that can serve a need; none where there is no such need.
-fn via_of(problem: &Problem, need: u8) -> &[u8] {
-    if need < problem.need_count() {
-        problem.via(usize::from(need))
-    } else {
-        &[]
-    }
+// A drawn site of a need's via, each as likely as another.
+fn drawn_site(problem: &Problem, draws: &mut Xoshiro256PlusPlus, need: u8) -> u8
+    requires { need < need_count problem.now }
+{
+    let via = problem.via(usize::from(need));
+    let place = below(draws, via.len() as u8);
+    via[usize::from(place)]
 }
 
-// A drawn site of a need's via.
-fn drawn_site(problem: &Problem, draws: &mut Xoshiro256PlusPlus, need: u8) -> Option<u8> {
-    let via = via_of(problem, need);
-    let place = below(draws, problem.need_count());
-    via.get(usize::from(place) % via.len().max(1)).copied()
-}
-
-// A drawn number below this one, or 0 where that is 0.
-fn below(draws: &mut Xoshiro256PlusPlus, bound: u8) -> u8 {
-    if bound == 0 {
-        return 0;
-    }
+// A drawn number below this one.
+fn below(draws: &mut Xoshiro256PlusPlus, bound: u8) -> u8
+    requires { 0 < bound }
+    ensures below { result < bound }
+{
     ((draws.next_word() >> 32) % u64::from(bound)) as u8
 }

@@ -29,7 +29,7 @@ search_at-returns t c = record {
       let spent : Progress = record { cost = mid.cost; sites = mid.sites; left = mid.left - 1; capacities = mid.capacities } in
       let unclosed : IsOpen p cs mid = subst (λ found. MatchOption found (IsOpen p cs mid) (IsLeaf p cs mid)) c.in_default.is c.in_ok-found.ensures.found in
       let kept = kept_on p c.args.progress.now mid c.requires.kept c.offer.ensures.no_worse c.offer.ensures.best in
-      branch_searched p cs c.args.progress.now mid spent c.search_children.new.progress c.in_ok-children.children c.sites-sites.ensures.within c.requires.room unclosed
+      branch_searched p cs c.args.progress.now mid spent c.search_children.new.progress c.in_ok-children.children c.offer.ensures.within c.requires.room unclosed
       c.offer.ensures.beaten c.offer.ensures.left c.offer.ensures.no_worse refl (omega (arith, unclosed.left)) (record { best = kept.best; begun = kept.begun }) c.in_ok-children.ensures.size c.in_ok-children.ensures.searched;
 }
 
@@ -51,7 +51,7 @@ search_child-search_at-requires t c =
     let qs = c.args.choices.now ++ c.args.site ∷ [] in
     let right : is_over p qs ≡ false = sym (rw (c.as_slice.ensures.value, c.with-child.ensures.value) at c.is_over.ensures.value) ∙ c.if-is_over.false in
     let size : length qs ≡ length c.args.choices.now + 1 = simp length-append (omega arith) in
-    let few : need_count p ≤ 64 = c.sites-sites.ensures.within.few_needs in
+    let few : need_count p ≤ 64 = c.requires.few in
     rw c.with-child.ensures.value (
       omega (arith, c.decreases, size, few, c.requires.above),
       (
@@ -78,12 +78,15 @@ search_children-search_child-requires t c =
       (
         c.requires.above,
         (
-          rw sites stands,
+          c.via-site-items.ensures.few_needs,
           (
-            c.requires.choices,
+            rw sites stands,
             (
-              c.requires.room,
-              c.loop-site.invariant.0.nodes.kept,
+              c.requires.choices,
+              (
+                c.requires.room,
+                c.loop-site.invariant.0.nodes.kept,
+              ),
             ),
           ),
         ),
