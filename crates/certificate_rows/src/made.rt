@@ -62,12 +62,6 @@ pub fn fork(alloc: Global, one: Tree, other: Tree) -> Result<Tree, AllocError> {
     Ok(Tree::Branch(children))
 }
 
-pub fn chain(alloc: Global, only: Tree) -> Result<Tree, AllocError> {
-    let mut children = Items::new(alloc);
-    children.push(only)?;
-    Ok(Tree::Branch(children))
-}
-
 /// A Branch with two Dual leaves of one lambda each.
 pub fn two_duals(alloc: Global, one: u64, other: u64) -> Result<Tree, AllocError> {
     let one = dual(alloc, &[one], &[0, 0])?;

@@ -1,19 +1,10 @@
 //! Trees written as text and as bytes.
 
-use crate::made::{dual, fork, two_duals};
+use crate::made::{dual, fork};
 use bound_certificate::{Tree, is_formed};
 use certificate_text::{tree_bytes, tree_text};
 use sqlite_items::Items;
 use std::test::Fail;
-
-#[test]
-fn the_text_of_two_duals(rt: HostRuntime) -> Result<(), Fail> {
-    let tree = two_duals(rt.alloc(), 4, 0)?;
-    let text = tree_text(rt.alloc(), &tree).expect(&rt, "ample memory");
-    let lines = "univmon tree 1\nbranch 2\ndual 1 4 2 0 0\ndual 1 0 2 0 0\nend\n";
-    assert_eq!(rt; text.as_str(), lines);
-    Ok(())
-}
 
 #[test]
 fn the_text_of_other_nodes(rt: HostRuntime) -> Result<(), Fail> {

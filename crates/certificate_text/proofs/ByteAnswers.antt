@@ -1,5 +1,5 @@
 -- Bytes are always read as something: a thing at their front, or one of the two faults.
-use Rattle.std.proofs.Common.{◌≡◌, ℕ, suc, zero, ◌+◌, ◌-◌, ◌≤◌, ◌<◌, ◌⊎◌, inl, inr, ◌^◌, false, List, [], ◌∷◌, ◌++◌, length, map, take, drop, flat_map, get_or, Result, Ok, Err, refl, sym, ◌∙◌, ap, subst, arith, append_assoc, w64}
+use Rattle.std.proofs.Common.{◌≡◌, ℕ, suc, zero, ◌+◌, ◌-◌, ◌≤◌, ◌<◌, ◌⊎◌, inl, inr, ◌^◌, List, [], ◌∷◌, ◌++◌, length, map, take, drop, flat_map, get_or, Result, Ok, Err, refl, sym, ◌∙◌, ap, subst, arith, append_assoc, w64}
 use Rattle.std.specs.Prelude.{sum, nat_lt}
 use Rattle.std.specs.Int.{to_le_bytes, from_le_bytes}
 use Rattle.std.specs.List.{All, list_all}
@@ -12,8 +12,8 @@ use Rattle.bound_certificate.specs.Formed.{branches}
 use Rattle.certificate_text.specs.Bytes.{in_eights, bytes_of}
 use Rattle.certificate_text.specs.NodeHead.{head_part}
 use Rattle.certificate_text.specs.ReadBytes.{ReadsBytes}
-use Rattle.certificate_text.specs.ReadNode.{kind_of, head_bytes, head_body, own_branches, FitsAt, least_kind, HasKind, AreNames, IsPrice, ArePriced, counted, no_cost, one_byte}
-use Rattle.certificate_text.specs.ReadTree.{IsFormedAt, followers, grown}
+use Rattle.certificate_text.specs.ReadNode.{head_bytes, head_body, own_branches, FitsAt, least_kind, HasKind, AreNames, IsPrice, ArePriced, counted_eights, no_cost, one_byte}
+use Rattle.certificate_text.specs.ReadTree.{IsFormedAt, followers}
 use Rattle.certificate_text.specs.Reading.{Stands, IsNone, Fails, Reads, Between, One, Several}
 use Rattle.bound_certificate.specs.declared.tree.Tree.{Tree}
 use Rattle.certificate_text.specs.declared.fault.TreeBytesFault.{TreeBytesFault}
@@ -73,17 +73,17 @@ row_answers {join} row bytes first next =
     elim first [
       | inr failed ↦ inr (failed.0, failed.1, first_fails row bytes failed.0 failed.2)
       | inl found ↦ elim (next found.0 found.1 found.2) [
-          | inl more ↦ inl (
-              join found.0 more.0,
-              found.1 + more.1,
-              row_stands row bytes found.0 more.0 found.1 more.1 found.2 more.2,
-            )
-          | inr failed ↦ inr (
-              failed.0,
-              failed.1,
-              second_fails row bytes found.0 found.1 failed.0 found.2 failed.2,
-            )
-        ]
+        | inl more ↦ inl (
+          join found.0 more.0,
+          found.1 + more.1,
+          row_stands row bytes found.0 more.0 found.1 more.1 found.2 more.2,
+        )
+        | inr failed ↦ inr (
+          failed.0,
+          failed.1,
+          second_fails row bytes found.0 found.1 failed.0 found.2 failed.2,
+        )
+      ]
     ]
 
 -- a byte
@@ -91,15 +91,23 @@ byte_answers : (least most : ℕ) (bytes : List ℕ) → least ≤ most → Answ
 byte_answers least most [] range = inr (Short, short_told, byte_cut least most [] range refl)
 byte_answers least most (x ∷ xs) range =
     elim (cases_lt x least) [
-      | inl below ↦ inr (Shape, shape_told, λ y more rest may agree.
-          let same : x ≡ y = cc in
-          absurd (omega (arith, same, below, may.low)))
+      | inl below ↦ inr (
+        Shape,
+        shape_told,
+        λ y more rest may agree.
+            let same : x ≡ y = cc in
+            absurd (omega (arith, same, below, may.low)),
+      )
       | inr low ↦ elim (cases_lt most x) [
-          | inl above ↦ inr (Shape, shape_told, λ y more rest may agree.
+        | inl above ↦ inr (
+          Shape,
+          shape_told,
+          λ y more rest may agree.
               let same : x ≡ y = cc in
-              absurd (omega (arith, same, above, may.high)))
-          | inr high ↦ inl (x, 1, record { may = record { low = low; high = high }; size = refl; parts = refl })
-        ]
+              absurd (omega (arith, same, above, may.high)),
+        )
+        | inr high ↦ inl (x, 1, record { may = record { low = low; high = high }; size = refl; parts = refl })
+      ]
     ]
 
 -- a number
@@ -123,16 +131,20 @@ number_answers bytes low =
     elim (cases_lt (length bytes) 8) [
       | inl few ↦ inr (Short, short_told, number_cut bytes few low)
       | inr many ↦ elim (cases_lt value (2 ^ 56)) [
-          | inl small ↦
-              let spelled : to_le_bytes w64 value ≡ front =
-              le_bytes_8 front value (length-take-le 8 bytes many) (low_take bytes 8 low) refl in
-              inl (value, 8, record {
+        | inl small ↦
+            let spelled : to_le_bytes w64 value ≡ front =
+            le_bytes_8 front value (length-take-le 8 bytes many) (low_take bytes 8 low) refl in
+            inl (
+              value,
+              8,
+              record {
                 may = small;
                 size = refl;
                 parts = sym (take-append-drop 8 bytes) ∙ ap (λ (xs : List ℕ). xs ++ drop 8 bytes) (sym spelled);
-              })
-          | inr large ↦ inr (Shape, shape_told, large_number bytes low many large)
-        ]
+              },
+            )
+        | inr large ↦ inr (Shape, shape_told, large_number bytes low many large)
+      ]
     ]
 
 -- so many numbers
@@ -165,7 +177,7 @@ numbers_answers count bytes low =
     numbers_from count bytes low count 0 0 [] (omega arith) (no_numbers bytes)
     (subst (λ (k : ℕ). Hangs IsPrice (λ x. to_le_bytes w64 x) no_cost count 0 bytes k 0 0) all (hangs_all count 0 bytes))
 
-counted_answers : (limit : ℕ) (bytes : List ℕ) → AreLow bytes → Answers (ArePriced limit) counted bytes
+counted_answers : (limit : ℕ) (bytes : List ℕ) → AreLow bytes → Answers (ArePriced limit) counted_eights bytes
 counted_answers limit bytes low =
     row_answers (row_counted limit) bytes (byte_answers 0 limit bytes (omega arith))
     (λ c n stands. numbers_answers c (drop n bytes) (low_drop bytes n low))
@@ -176,26 +188,34 @@ names_answers count bytes =
     elim (cases_Bool (list_all (λ x. nat_lt x 64) (take count bytes))) [
       | inr none ↦ inr (Shape, shape_told, names_none count bytes none)
       | inl all ↦ elim (cases_lt (length bytes) count) [
-          | inl few ↦ inr (Short, short_told, names_cut count bytes all few)
-          | inr many ↦
-              let size : length (take count bytes) ≡ count = length-take-le count bytes many in
-              inl (take count bytes, count, record {
+        | inl few ↦ inr (Short, short_told, names_cut count bytes all few)
+        | inr many ↦
+            let size : length (take count bytes) ≡ count = length-take-le count bytes many in
+            inl (
+              take count bytes,
+              count,
+              record {
                 may = record { size = size; each = all };
                 size = sym size;
                 parts = sym (take-append-drop count bytes);
-              })
-        ]
+              },
+            )
+      ]
     ]
 
 -- a node without its children, by its kind
 branch_answers : (bytes : List ℕ) → Answers (HasKind 0) head_body bytes
 branch_answers bytes =
     elim (byte_answers 1 8 bytes (omega arith)) [
-      | inl found ↦ inl (Branch found.0, found.1, record {
+      | inl found ↦ inl (
+        Branch found.0,
+        found.1,
+        record {
           may = branch_sound found.0 found.2.may;
           size = found.2.size;
           parts = found.2.parts;
-        })
+        },
+      )
       | inr failed ↦ inr (failed.0, failed.1, branch_fails bytes failed.0 failed.2)
     ]
 

@@ -11,7 +11,7 @@ use Rattle.certificate_text.specs.Bytes.{in_eights, part_bytes}
 use Rattle.bound_certificate.specs.Formed.{are_prices}
 use Rattle.bound_certificate.specs.Node.{Part, BranchPart, OverPart, HallPart, DualPart, FullPart}
 use Rattle.certificate_text.specs.NodeHead.{head_part, IsSound}
-use Rattle.certificate_text.specs.ReadNode.{kind_of, body_of, head_bytes, head_body, FitsAt, least_kind, HasKind, AreNames, IsPrice, ArePriced, counted, no_cost, one_byte}
+use Rattle.certificate_text.specs.ReadNode.{kind_of, body_of, head_bytes, head_body, FitsAt, least_kind, HasKind, AreNames, IsPrice, ArePriced, counted_eights, no_cost, one_byte}
 use Rattle.certificate_text.specs.Reading.{Stands, IsCut, IsNone, Fails, Between, Several}
 use Rattle.certificate_text.specs.declared.node_head.NodeHead.{NodeHead}
 use Rattle.certificate_text.specs.declared.node_head.NodeHead.TheVariants.{Branch, Over, Hall, Dual, Full}
@@ -57,7 +57,7 @@ pub zero_price : Filler IsPrice no_cost
 zero_price = record { thing = 0; may = omega arith; free = refl }
 
 -- a count, and so many numbers
-pub row_counted : (limit : ℕ) → Row (Between 0 limit) (λ c. Several IsPrice no_cost c 0) (ArePriced limit) one_byte in_eights counted (λ c numbers. numbers)
+pub row_counted : (limit : ℕ) → Row (Between 0 limit) (λ c. Several IsPrice no_cost c 0) (ArePriced limit) one_byte in_eights counted_eights (λ c numbers. numbers)
 row_counted limit = record {
   joined = λ c numbers may will. record { few = omega (arith, may.high, will.number); each = will.each };
   spelled = λ c numbers may will. ap (λ n. n ∷ in_eights numbers) will.number;
@@ -72,7 +72,7 @@ row_counted limit = record {
   known = byte_known 0 limit;
 }
 
-pub counted_known : (limit : ℕ) → Known (ArePriced limit) counted
+pub counted_known : (limit : ℕ) → Known (ArePriced limit) counted_eights
 counted_known limit = row_unique (row_counted limit) (λ c may. several_known number_known c 0)
 
 -- a count, and so many needs
@@ -150,7 +150,7 @@ dual_apart (Dual lambda mu) may =
     }
 dual_apart Full may = absurd (omega (arith, may.kind_is))
 
-pub row_dual : Row (ArePriced 64) (λ lambda. ArePriced 32) (HasKind 3) counted counted head_body Dual
+pub row_dual : Row (ArePriced 64) (λ lambda. ArePriced 32) (HasKind 3) counted_eights counted_eights head_body Dual
 row_dual = record {
   joined = dual_sound;
   spelled = λ lambda mu may will. refl;

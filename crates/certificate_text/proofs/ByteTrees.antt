@@ -234,16 +234,16 @@ unfolding is_formed
 parts_formed tree may = ap₂ (λ p q. p && q) may.may (le-leb (branches tree) 4096 may.few)
 
 pub reads_bytes : (bytes : List ℕ) (read : Result (Tree × ℕ) TreeBytesFault) → Reads (One (IsFormedAt 0) branches 4096) bytes_of bytes read → (read ≡ Err Memory) ⊎ ReadsBytes bytes read
-reads_bytes bytes (Ok read) stands = inr (record { formed = parts_formed read.0 stands.may; size = stands.size; parts = stands.parts })
+reads_bytes bytes (Ok read) stands = inr (record { may = parts_formed read.0 stands.may; size = stands.size; parts = stands.parts })
 reads_bytes bytes (Err Short) cut =
-    inr (record { tree = cut.thing; rest = cut.rest; formed = parts_formed cut.thing cut.may; some = cut.some; parts = cut.parts })
+    inr (record { thing = cut.thing; rest = cut.rest; may = parts_formed cut.thing cut.may; some = cut.some; parts = cut.parts })
 reads_bytes bytes (Err Shape) none = inr (λ tree more rest formed agree. none tree more rest (formed_parts tree formed) agree)
 reads_bytes bytes (Err Memory) none = inl refl
 
 bytes_read : (bytes : List ℕ) (read : Result (Tree × ℕ) TreeBytesFault) → ReadsBytes bytes read → Reads (One (IsFormedAt 0) branches 4096) bytes_of bytes read
-bytes_read bytes (Ok read) begins = record { may = formed_parts read.0 begins.formed; size = begins.size; parts = begins.parts }
+bytes_read bytes (Ok read) begins = record { may = formed_parts read.0 begins.may; size = begins.size; parts = begins.parts }
 bytes_read bytes (Err Short) ends =
-    record { thing = ends.tree; rest = ends.rest; may = formed_parts ends.tree ends.formed; some = ends.some; parts = ends.parts }
+    record { thing = ends.thing; rest = ends.rest; may = formed_parts ends.thing ends.may; some = ends.some; parts = ends.parts }
 bytes_read bytes (Err Shape) none = λ tree more rest may agree. none tree more rest (parts_formed tree may) agree
 bytes_read bytes (Err Memory) none = tt
 

@@ -2,7 +2,7 @@
 use Rattle.std.proofs.Common.{◌≡◌, ℕ, List, ◌++◌, map, ◌∙◌, ap}
 use Rattle.std.specs.List.{concat}
 use Rattle.bound_certificate.specs.Node.{Part}
-use Rattle.bound_certificate.specs.Tree.{part_step, children_step, part_of, children_of}
+use Rattle.bound_certificate.specs.Tree.{children_step, part_of, children_of}
 use Rattle.certificate_text.specs.Text.{part_line, lines_step, lines_of}
 use Rattle.certificate_text.specs.Bytes.{part_bytes, bytes_step, bytes_of}
 use Rattle.bound_certificate.specs.declared.tree.Tree.{Tree}

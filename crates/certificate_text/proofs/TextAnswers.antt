@@ -1,19 +1,19 @@
 -- A text is always read as something: a tree, or its first fault.
-use Rattle.std.proofs.Common.{◌≡◌, ℕ, suc, zero, ◌+◌, ◌-◌, ◌≤◌, ◌<◌, ◌⊎◌, inl, inr, Bool, true, ◌&&◌, cond, List, [], ◌∷◌, ◌++◌, length, Option, Some, None, Result, Ok, Err, refl, sym, ◌∙◌, ap, subst, arith, append-nil, length-append}
+use Rattle.std.proofs.Common.{◌≡◌, ℕ, suc, zero, ◌+◌, ◌-◌, ◌≤◌, ◌<◌, ◌⊎◌, inl, inr, true, ◌&&◌, cond, List, [], ◌∷◌, ◌++◌, length, Option, Some, None, Result, Ok, Err, refl, ◌∙◌, ap, subst, arith, append-nil, length-append}
 use Rattle.std.specs.Prelude.{codes, nat_le, nat_lt}
 use Rattle.std.proofs.lemmas.Bool.{cases_lt, lt-ltb, le-leb}
 use Rattle.std.proofs.lemmas.Bool.Decides.{nat_tests}
 use Rattle.bound_certificate.specs.Formed.{is_formed_part}
 use Rattle.bound_certificate.specs.Tree.{is_branch}
 use Rattle.certificate_text.specs.Cursor.{HasPassed}
-use Rattle.certificate_text.specs.NodeHead.{head_part, IsSound, ReadsLine}
+use Rattle.certificate_text.specs.NodeHead.{head_part, IsSound}
 use Rattle.certificate_text.specs.NodeLines.{IsNodeRead, ReadsNode, IsHeadRead, IsTreeRead, AreTreesRead, IsStopped, AreStopped}
 use Rattle.certificate_text.specs.Parts.{CanStand}
 use Rattle.certificate_text.specs.ReadText.{text_limit, head_line, IsLine, ended, lines_text, ReadsText}
 use Rattle.certificate_text.specs.TextEnds.{HavePassed, IsHeadPassed, IsHeadless, end_line, IsNotEnded}
 use Rattle.certificate_text.specs.declared.cursor.Cursor.{Cursor}
 use Rattle.certificate_text.specs.declared.fault.CertFault.{CertFault}
-use Rattle.certificate_text.specs.declared.fault.CertFault.TheVariants.{TooLong, NoTree, Line, Node, Memory}
+use Rattle.certificate_text.specs.declared.fault.CertFault.TheVariants.{TooLong, NoTree, Line}
 use Rattle.certificate_text.specs.declared.node_head.NodeHead.{NodeHead}
 use Rattle.certificate_text.specs.declared.node_head.NodeHead.TheVariants.{Branch, Over, Hall, Dual, Full}
 use Rattle.bound_certificate.specs.declared.tree.Tree.{Tree}
@@ -34,9 +34,9 @@ cut_answer (b ∷ bytes) =
     elim (same_or_not b 10) [
       | inl feed ↦ inr ([], bytes, tt, λ i. feed i ∷ bytes)
       | inr other ↦ elim (cut_answer bytes) [
-          | inl whole ↦ inl (other, whole)
-          | inr found ↦ inr (b ∷ found.0, found.1, (other, found.2), ap (λ (xs : List ℕ). b ∷ xs) found.3)
-        ]
+        | inl whole ↦ inl (other, whole)
+        | inr found ↦ inr (b ∷ found.0, found.1, (other, found.2), ap (λ (xs : List ℕ). b ∷ xs) found.3)
+      ]
     ]
 
 -- the cursor behind a line
@@ -83,14 +83,14 @@ stand_answer d b (Branch c) sound =
     elim (cases_lt d 64) [
       | inr deep ↦ inr (λ can. branch_deep d c deep can.formed)
       | inl above ↦ elim (cases_lt 0 b) [
-          | inr none ↦ inr (λ can. absurd (omega (arith, none, can.few refl)))
-          | inl some ↦ inl (
-              b - 1,
-              both_true (nat_lt d 64 && nat_le 1 c) (nat_le c 8)
-                  (both_true (nat_lt d 64) (nat_le 1 c) (lt-ltb d 64 above) (le-leb 1 c range.0)) (le-leb c 8 range.1),
-              omega (arith, some),
-            )
-        ]
+        | inr none ↦ inr (λ can. absurd (omega (arith, none, can.few refl)))
+        | inl some ↦ inl (
+          b - 1,
+          both_true (nat_lt d 64 && nat_le 1 c) (nat_le c 8)
+              (both_true (nat_lt d 64) (nat_le 1 c) (lt-ltb d 64 above) (le-leb 1 c range.0)) (le-leb c 8 range.1),
+          omega (arith, some),
+        )
+      ]
     ]
 stand_answer d b Over sound = inl (b, refl, omega arith)
 stand_answer d b (Hall names) sound = inl (b, sound, omega arith)
@@ -108,10 +108,10 @@ head_stands d before after head read stands =
     elim stands [
       | inr refused ↦ inr (refused_stops d before after head read refused)
       | inl left ↦ inl (
-          record { rest = after.rest; number = after.number; branches = left.0 },
-          head,
-          record { formed = left.1; split = read.split; number = read.number; branches = left.2; room = read.room },
-        )
+        record { rest = after.rest; number = after.number; branches = left.0 },
+        head,
+        record { formed = left.1; split = read.split; number = read.number; branches = left.2; room = read.room },
+      )
     ]
 
 head_read : (d : ℕ) (before after : Cursor) (read : Option NodeHead) → ReadsNode before after read → HeadAnswer d before
@@ -158,11 +158,11 @@ branch_answer d c before mid read answer =
       | inl found ↦
           let ts = found.1 in
           let root = part_of-Branch ts ∙ ap (λ (n : ℕ). head_part (Branch n)) found.2 in (
-            inl (
-              found.0,
-              TreeBranch ts,
-              rooted d before mid found.0 (Branch c) (TreeBranch ts) ts root (children_of-Branch ts) read found.3,
-            )
+          inl (
+            found.0,
+            TreeBranch ts,
+            rooted d before mid found.0 (Branch c) (TreeBranch ts) ts root (children_of-Branch ts) read found.3,
+          )
           )
       | inr failed ↦ inr (failed.0, branch_stops d c before mid (Line failed.0) read failed.1)
     ]
@@ -222,13 +222,16 @@ unfolding HeadLine
 last_line start now so_far whole =
     elim (same_list_or_not now.rest.now head_line) [
       | inl is ↦ inr (Line now.number, head_cut start now so_far is)
-      | inr other ↦ inr (NoTree, record {
+      | inr other ↦ inr (
+        NoTree,
+        record {
           front = so_far.front;
           last = now.rest.now;
           passed = so_far.passed;
           other = (whole, other);
           parts = so_far.split;
-        })
+        },
+      )
     ]
 
 head_line_answer : (fuel : ℕ) (start now : Cursor) → HavePassed start now → length now.rest.now < fuel → HeadLine start
@@ -255,12 +258,12 @@ end_answer before =
     elim (word_answer (ended end_line) before.rest.now) [
       | inr none ↦ inr (before.number, inl (record { none = none; place = refl }))
       | inl found ↦ elim (empty_or_not found.0) [
-          | inl empty ↦ inl (found.1 ∙ ap (λ (rest : List ℕ). ended end_line ++ rest) empty ∙ append-nil (ended end_line))
-          | inr some ↦ inr (
-              before.number + 1,
-              inr (record { behind = found.0; some = some; split = found.1; place = refl }),
-            )
-        ]
+        | inl empty ↦ inl (found.1 ∙ ap (λ (rest : List ℕ). ended end_line ++ rest) empty ∙ append-nil (ended end_line))
+        | inr some ↦ inr (
+          before.number + 1,
+          inr (record { behind = found.0; some = some; split = found.1; place = refl }),
+        )
+      ]
     ]
 
 -- the answer of a text
@@ -273,16 +276,16 @@ unfolding Answer TreeAnswer
 nodes_answer text start mid begun headed answer =
     elim answer [
       | inr failed ↦ elim (nodes_fail text start mid (Line failed.0) begun headed failed.1) [
-          | inl memory ↦ absurd (cc)
-          | inr reads ↦ (Err (Line failed.0), reads)
-        ]
+        | inl memory ↦ absurd (cc)
+        | inr reads ↦ (Err (Line failed.0), reads)
+      ]
       | inl found ↦ elim (end_answer found.0) [
-          | inl over ↦ (Ok found.1, tree_reads text start mid found.0 found.1 begun headed found.2 over)
-          | inr more ↦ (
-              Err (Line more.0),
-              end_fails text start mid found.0 found.1 (Line more.0) begun headed found.2 more.1,
-            )
-        ]
+        | inl over ↦ (Ok found.1, tree_reads text start mid found.0 found.1 begun headed found.2 over)
+        | inr more ↦ (
+          Err (Line more.0),
+          end_fails text start mid found.0 found.1 (Line more.0) begun headed found.2 more.1,
+        )
+      ]
     ]
 
 begun_answer : (text : List ℕ) (start : Cursor) → Begun text start → HeadLine start → Answer text

@@ -65,8 +65,8 @@ pub record ArePriced (limit : ℕ) (numbers : List ℕ) : Type 0 where
   pub few : length numbers ≤ limit
   pub each : AllByRecursion IsPrice numbers
 
-abbrev pub counted : List ℕ → List ℕ
-counted numbers = length numbers ∷ in_eights numbers
+abbrev pub counted_eights : List ℕ → List ℕ
+counted_eights numbers = length numbers ∷ in_eights numbers
 
 -- which no budget limits
 abbrev pub no_cost : ℕ → ℕ

@@ -11,7 +11,7 @@ ghost use Rattle.certificate_text.specs.ReadNode.{
   IsPrice,
   head_bytes,
   head_body,
-  counted,
+  counted_eights,
   one_byte,
   no_cost,
   least_kind,
@@ -158,7 +158,7 @@ fn read_counted(
     bytes: &[u8],
     limit: u8,
 ) -> Result<(Items<u64>, usize), TreeBytesFault>
-    ensures { Reads (ArePriced limit) counted bytes.now result }
+    ensures { Reads (ArePriced limit) counted_eights bytes.now result }
 {
     let (count, start) = match read_between(bytes, 0, limit) {
         Ok(read) => read,

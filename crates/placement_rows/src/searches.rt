@@ -167,3 +167,42 @@ fn trees_are_read_back(rt: HostRuntime) -> Result<(), Fail> {
     reads_back(&rt, rt.alloc(), &too_coarse(&rt, rt.alloc())?)?;
     reads_back(&rt, rt.alloc(), &generated(&rt, rt.alloc())?)
 }
+
+// The first need has a site of its own, the second a via of eight sites, of which the first and the last have room, and
+// the third the first of these alone.
+fn long_via(rt: &impl Abort, alloc: Global) -> Result<Problem, AllocError> {
+    let full = site(0, 0, 0);
+    let sites = [
+        site(3, 0, 0),
+        full,
+        full,
+        full,
+        full,
+        full,
+        full,
+        site(3, 0, 1),
+        site(1, 0, 0),
+    ];
+    let mut needs = Vec::new(alloc);
+    let via = Items::from_slice(alloc, &[8])?;
+    needs.push(Need { load: 1, via })?;
+    let via = Items::from_slice(alloc, &[0, 1, 2, 3, 4, 5, 6, 7])?;
+    needs.push(Need { load: 3, via })?;
+    let via = Items::from_slice(alloc, &[0])?;
+    needs.push(Need { load: 3, via })?;
+    let sites = Vec::from_slice(alloc, &sites)?;
+    assert!(rt; is_within(&sites, &needs), "a problem within the limits");
+    Ok(Problem::new(sites, needs))
+}
+
+// One Branch node fixes the first need alone, and first fit fills the third need's site with the second.
+#[test]
+fn the_last_site_of_a_long_via_is_found(rt: HostRuntime) -> Result<(), Fail> {
+    let problem = long_via(&rt, rt.alloc())?;
+    let outcome = search(rt.alloc(), &problem, 1).expect(&rt, "ample memory");
+    let Outcome::Placed { placement, tree: _ } = &outcome else {
+        return Err("a placement".into());
+    };
+    assert_eq!(rt; placement.sites.as_slice(), [8, 7, 0].as_slice());
+    Ok(())
+}

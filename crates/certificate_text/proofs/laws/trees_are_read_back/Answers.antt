@@ -9,7 +9,7 @@ returns-clause-text c = λ tree formed. (text_fits tree formed, record { front =
 
 pub returns-clause-bytes : goal.returns-clause-bytes
 returns-clause-bytes c = λ tree rest formed. record {
-  formed = formed;
+  may = formed;
   size = refl;
   parts = ap (λ xs. bytes_of tree ++ xs) (sym (drop-append_seam (bytes_of tree) rest));
 }
