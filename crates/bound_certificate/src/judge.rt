@@ -111,7 +111,8 @@ fn is_best(
     requires formed { IsTrue (is_formed tree.now) }
     requires right { first_fault problem.now 0 (visits problem.now tree.now []) ≡ None }
     requires verdict { verdict ≡ verdict_of problem.now (visits problem.now tree.now []) }
-    ensures { result ≡ is_best problem.now nodes (visits problem.now tree.now []) (cost problem.now placement.now.sites) }
+    ensures { result ≡ is_best problem.now nodes (visits problem.now tree.now [])
+        (cost problem.now placement.now.sites) }
 {
     let cost = cost_of(problem, placement.sites.as_slice());
     let rule = Rule {

@@ -8,13 +8,19 @@ pub record Continues {X : Type 0} (ms ns xs ys : List X) : Type 0 where
   pub later : ns ≡ ms ++ more
   pub rest : xs ≡ more ++ ys
 
-pub continues : {X : Type 0} (ms ns xs ys : List X) → length ms ≤ length ns → ms ++ xs ≡ ns ++ ys → Continues ms ns xs ys
+pub continues : {X : Type 0} (ms ns xs ys : List X) → length ms ≤ length ns → ms ++ xs ≡ ns ++ ys
+    → Continues ms ns xs ys
 continues [] ns xs ys few is = record { more = ns; later = refl; rest = is }
 continues (a ∷ ms) [] xs ys few is = grind (arith)
 continues (a ∷ ms) (b ∷ ns) xs ys few is =
     let others = continues ms ns xs ys (omega (arith, few)) (ap (drop 1) is) in
     let heads : a ≡ b = ap (λ es. slice_index_or es 0 a) is in
-    record { more = others.more; later = ap (λ e. e ∷ ns) (sym heads) ∙ ap (λ es. a ∷ es) others.later; rest = others.rest }
+    record {
+      more = others.more;
+      later = ap (λ e. e ∷ ns) (sym heads)
+          ∙ ap (λ es. a ∷ es) others.later;
+      rest = others.rest;
+    }
 
 one_more : (m n : ℕ) → (m ≤ n) ⊎ (n < m) → (suc m ≤ suc n) ⊎ (suc n < suc m)
 one_more m n (inl few) = inl (omega (arith, few))

@@ -171,11 +171,13 @@ no_numbers : (bytes : List ℕ) → Stands (Several IsPrice no_cost 0 0) in_eigh
 no_numbers bytes =
     record { may = record { number = refl; each = tt; few = omega arith }; size = refl; parts = refl }
 
-numbers_answers : (count : ℕ) (bytes : List ℕ) → AreLow bytes → Answers (Several IsPrice no_cost count 0) in_eights bytes
+numbers_answers : (count : ℕ) (bytes : List ℕ) → AreLow bytes
+    → Answers (Several IsPrice no_cost count 0) in_eights bytes
 numbers_answers count bytes low =
     let all : count ≡ count - 0 = omega arith in
     numbers_from count bytes low count 0 0 [] (omega arith) (no_numbers bytes)
-    (subst (λ (k : ℕ). Hangs IsPrice (λ x. to_le_bytes w64 x) no_cost count 0 bytes k 0 0) all (hangs_all count 0 bytes))
+    (subst (λ (k : ℕ). Hangs IsPrice (λ x. to_le_bytes w64 x) no_cost count 0 bytes k 0 0) all
+    (hangs_all count 0 bytes))
 
 counted_answers : (limit : ℕ) (bytes : List ℕ) → AreLow bytes → Answers (ArePriced limit) counted_eights bytes
 counted_answers limit bytes low =
@@ -246,7 +248,12 @@ trees_from : (d n b : ℕ)
     → Answers (Several (IsFormedAt d) branches n b) (flat_map bytes_of) bytes
 trees_from d n b each bytes low zero i left at ts is front hangs spent =
     let all : i ≡ n = omega (arith, is) in
-    inl (ts, at, subst (λ (m : ℕ). Stands (Several (IsFormedAt d) branches m b) (flat_map bytes_of) bytes ts at) all front)
+    inl (
+      ts,
+      at,
+      subst (λ (m : ℕ). Stands (Several (IsFormedAt d) branches m b)
+          (flat_map bytes_of) bytes ts at) all front,
+    )
 trees_from d n b each bytes low (suc k) i left at ts is front hangs spent =
     let rest = drop at bytes in
     let within : i < n = omega (arith, is) in
@@ -290,12 +297,14 @@ tree_answers zero d b bytes low deep =
     row_answers (row_tree d b) bytes (head_answers d b bytes low) (λ head n stands.
     let none = last_followers d b head (omega (arith, deep)) stands.may in
     let left = b - own_branches (head_part head) in
-    subst (λ (m : ℕ). Answers (Several (IsFormedAt (d + 1)) branches m left) (flat_map bytes_of) (drop n bytes)) (sym none)
+    subst (λ (m : ℕ). Answers (Several (IsFormedAt (d + 1)) branches m left) (flat_map bytes_of) (drop n bytes))
+    (sym none)
     (inl ([], 0, no_trees (d + 1) left (drop n bytes))))
 tree_answers (suc f) d b bytes low deep =
     row_answers (row_tree d b) bytes (head_answers d b bytes low) (λ head n stands.
     trees_answers (d + 1) (followers head) (b - own_branches (head_part head))
-    (λ left rest below. tree_answers f (d + 1) left rest below (omega (arith, deep))) (drop n bytes) (low_drop bytes n low))
+    (λ left rest below. tree_answers f (d + 1) left rest below (omega (arith, deep))) (drop n bytes)
+    (low_drop bytes n low))
 
 -- the answer of bytes
 found_reads : (bytes : List ℕ) (read : Result (Tree × ℕ) TreeBytesFault)

@@ -23,7 +23,8 @@ use Rattle.certificate_text.proofs.Severals.{Filler, filled, several_known, stan
 
 -- a byte
 pub byte_known : (least most : ℕ) → Known (Between least most) one_byte
-byte_known least most x = record { only = λ y u v may will agree. (let same : x ≡ y = cc in same, let rest : u ≡ v = cc in rest) }
+byte_known least most x =
+    record { only = λ y u v may will agree. (let same : x ≡ y = cc in same, let rest : u ≡ v = cc in rest) }
 
 -- fronts of one length
 pub same_fronts : (xs ys u v : List ℕ) → length xs ≡ length ys → xs ++ u ≡ ys ++ v → (xs ≡ ys) × (u ≡ v)
@@ -45,8 +46,11 @@ number_known x = record {
   only = λ y u v may will agree.
       let same = same_fronts (to_le_bytes w64 x) (to_le_bytes w64 y) u v refl agree in
       let small : x < 2 ^ 64 = omega arith in
-      let little : y < 2 ^ 64 = omega arith in
-      (sym (from_le_bytes-to_le_bytes_8 x small) ∙ ap (from_le_bytes w64) same.0 ∙ from_le_bytes-to_le_bytes_8 y little, same.1);
+      let little : y < 2 ^ 64 = omega arith in (
+        sym (from_le_bytes-to_le_bytes_8 x small) ∙ ap (from_le_bytes w64) same.0
+            ∙ from_le_bytes-to_le_bytes_8 y little,
+        same.1,
+      );
 }
 
 free : (xs : List ℕ) → sum (map no_cost xs) ≡ 0
@@ -57,7 +61,9 @@ pub zero_price : Filler IsPrice no_cost
 zero_price = record { thing = 0; may = omega arith; free = refl }
 
 -- a count, and so many numbers
-pub row_counted : (limit : ℕ) → Row (Between 0 limit) (λ c. Several IsPrice no_cost c 0) (ArePriced limit) one_byte in_eights counted_eights (λ c numbers. numbers)
+pub row_counted : (limit : ℕ)
+    → Row (Between 0 limit) (λ c. Several IsPrice no_cost c 0) (ArePriced limit) one_byte in_eights counted_eights
+    (λ c numbers. numbers)
 row_counted limit = record {
   joined = λ c numbers may will. record { few = omega (arith, may.high, will.number); each = will.each };
   spelled = λ c numbers may will. ap (λ n. n ∷ in_eights numbers) will.number;
@@ -102,7 +108,8 @@ pub row_hall : Row (Between 0 64) AreNames (HasKind 2) one_byte (λ names. names
 row_hall = record {
   joined = λ c names may will. record {
     kind_is = refl;
-    sound = both_true (nat_le (length names) 64) (list_all (λ x. nat_lt x 64) names) (le-leb (length names) 64 (omega (arith, may.high, will.size))) will.each;
+    sound = both_true (nat_le (length names) 64) (list_all (λ x. nat_lt x 64) names)
+        (le-leb (length names) 64 (omega (arith, may.high, will.size))) will.each;
   };
   spelled = λ c names may will. ap (λ n. n ∷ names) will.size;
   apart = hall_apart;
@@ -116,7 +123,8 @@ hall_known = row_unique row_hall (λ c may. names_known c)
 -- numbers and numbers
 pub priced_are : (xs : List ℕ) → AllByRecursion IsPrice xs → are_prices xs ≡ true
 priced_are [] each = refl
-priced_are (x ∷ xs) each = both_true (nat_lt x (2 ^ 56)) (are_prices xs) (lt-ltb x (2 ^ 56) each.0) (priced_are xs each.1)
+priced_are (x ∷ xs) each =
+    both_true (nat_lt x (2 ^ 56)) (are_prices xs) (lt-ltb x (2 ^ 56) each.0) (priced_are xs each.1)
 
 pub are_priced : (xs : List ℕ) → are_prices xs ≡ true → AllByRecursion IsPrice xs
 are_priced [] are = tt
@@ -126,11 +134,14 @@ are_priced (x ∷ xs) are =
 
 dual_sound : (lambda mu : List ℕ) → ArePriced 64 lambda → ArePriced 32 mu → HasKind 3 (Dual lambda mu)
 dual_sound lambda mu may will =
-    let sizes = both_true (nat_le (length lambda) 64) (nat_le (length mu) 32) (le-leb (length lambda) 64 may.few) (le-leb (length mu) 32 will.few) in
-    let first = both_true (nat_le (length lambda) 64 && nat_le (length mu) 32) (are_prices lambda) sizes (priced_are lambda may.each) in
+    let sizes = both_true (nat_le (length lambda) 64) (nat_le (length mu) 32) (le-leb (length lambda) 64 may.few)
+    (le-leb (length mu) 32 will.few) in
+    let first = both_true (nat_le (length lambda) 64 && nat_le (length mu) 32) (are_prices lambda) sizes
+    (priced_are lambda may.each) in
     record {
       kind_is = refl;
-      sound = both_true (nat_le (length lambda) 64 && nat_le (length mu) 32 && are_prices lambda) (are_prices mu) first (priced_are mu will.each);
+      sound = both_true (nat_le (length lambda) 64 && nat_le (length mu) 32 && are_prices lambda) (are_prices mu) first
+          (priced_are mu will.each);
     }
 
 dual_apart : (head : NodeHead) → HasKind 3 head → Apart (ArePriced 64) (λ lambda. ArePriced 32) Dual head
@@ -138,7 +149,8 @@ dual_apart (Branch children) may = absurd (omega (arith, may.kind_is))
 dual_apart Over may = absurd (omega (arith, may.kind_is))
 dual_apart (Hall names) may = absurd (omega (arith, may.kind_is))
 dual_apart (Dual lambda mu) may =
-    let all = and_parts (nat_le (length lambda) 64 && nat_le (length mu) 32 && are_prices lambda) (are_prices mu) may.sound in
+    let all = and_parts (nat_le (length lambda) 64 && nat_le (length mu) 32 && are_prices lambda)
+    (are_prices mu) may.sound in
     let some = and_parts (nat_le (length lambda) 64 && nat_le (length mu) 32) (are_prices lambda) all.0 in
     let sizes = and_parts (nat_le (length lambda) 64) (nat_le (length mu) 32) some.0 in
     record {
@@ -183,7 +195,8 @@ branch_known x = record {
   only = λ y u v may will agree.
       let one = branch_apart x may in
       let two = branch_apart y will in
-      let same = (byte_known 1 8 one.0).only two.0 u v one.1 two.1 (sym (ap (λ h. head_body h ++ u) one.2) ∙ agree ∙ ap (λ h. head_body h ++ v) two.2) in
+      let same = (byte_known 1 8 one.0).only two.0 u v one.1 two.1
+      (sym (ap (λ h. head_body h ++ u) one.2) ∙ agree ∙ ap (λ h. head_body h ++ v) two.2) in
       (one.2 ∙ ap Branch same.0 ∙ sym two.2, same.1);
 }
 
@@ -202,7 +215,8 @@ full_is (Hall names) may = absurd (omega (arith, may.kind_is))
 full_is (Dual lambda mu) may = absurd (omega (arith, may.kind_is))
 full_is Full may = refl
 
-alone_known : (kind : ℕ) (only : NodeHead) → head_body only ≡ [] → ((head : NodeHead) → HasKind kind head → head ≡ only) → Known (HasKind kind) head_body
+alone_known : (kind : ℕ) (only : NodeHead) → head_body only ≡ []
+    → ((head : NodeHead) → HasKind kind head → head ≡ only) → Known (HasKind kind) head_body
 alone_known kind only none is x = record {
   only = λ y u v may will agree.
       let same : x ≡ y = is x may ∙ sym (is y will) in
@@ -224,7 +238,8 @@ body_known (suc zero) = alone_known 1 Over refl over_is
 body_known (suc (suc zero)) = hall_known
 body_known (suc (suc (suc zero))) = dual_known
 body_known (suc (suc (suc (suc zero)))) = alone_known 4 Full refl full_is
-body_known (suc (suc (suc (suc (suc k))))) = λ x. record { only = λ y u v may will agree. absurd (omega (arith, kinds x, may.kind_is)) }
+body_known (suc (suc (suc (suc (suc k))))) =
+    λ x. record { only = λ y u v may will agree. absurd (omega (arith, kinds x, may.kind_is)) }
 
 some_body : (kind : ℕ) → kind ≤ 4 → (head : NodeHead) × HasKind kind head
 some_body zero few = (Branch 1, record { kind_is = refl; sound = refl })
@@ -243,7 +258,8 @@ part_split (DualPart lambda mu) = refl
 part_split FullPart = refl
 
 least_of : (d b : ℕ) → d < 64 → 0 < b → least_kind d b ≡ 0
-least_of d b deep left = ap (λ (t : Bool). cond {A = ℕ} t 0 1) (both_true (nat_lt d 64) (nat_lt 0 b) (lt-ltb d 64 deep) (lt-ltb 0 b left))
+least_of d b deep left =
+    ap (λ (t : Bool). cond {A = ℕ} t 0 1) (both_true (nat_lt d 64) (nat_lt 0 b) (lt-ltb d 64 deep) (lt-ltb 0 b left))
 
 branch_left : (d b : ℕ) → least_kind d b ≤ 0 → (d < 64) × (0 < b)
 branch_left d b low = (grind (arith, low), grind (arith, low))
@@ -256,7 +272,8 @@ head_fits d b kind (Branch c) may will =
     let left = branch_left d b (omega (arith, may.low, will.kind_is)) in
     let range = and_parts (nat_le 1 c) (nat_le c 8) will.sound in
     record {
-      formed = both_true (nat_lt d 64 && nat_le 1 c) (nat_le c 8) (both_true (nat_lt d 64) (nat_le 1 c) (lt-ltb d 64 left.0) range.0) range.1;
+      formed = both_true (nat_lt d 64 && nat_le 1 c) (nat_le c 8)
+          (both_true (nat_lt d 64) (nat_le 1 c) (lt-ltb d 64 left.0) range.0) range.1;
       few = left.1;
     }
 head_fits d b kind Over may will = record { formed = refl; few = omega arith }
@@ -264,7 +281,8 @@ head_fits d b kind (Hall names) may will = record { formed = will.sound; few = o
 head_fits d b kind (Dual lambda mu) may will = record { formed = will.sound; few = omega arith }
 head_fits d b kind Full may will = record { formed = refl; few = omega arith }
 
-fitting_kind : (d b : ℕ) (head : NodeHead) → FitsAt d b head → (least_kind d b ≤ kind_of (head_part head)) × IsSound (head_part head)
+fitting_kind : (d b : ℕ) (head : NodeHead) → FitsAt d b head
+    → (least_kind d b ≤ kind_of (head_part head)) × IsSound (head_part head)
 fitting_kind d b (Branch c) may =
     let parts = and_parts (nat_lt d 64 && nat_le 1 c) (nat_le c 8) may.formed in
     let front = and_parts (nat_lt d 64) (nat_le 1 c) parts.0 in
@@ -274,7 +292,8 @@ fitting_kind d b (Hall names) may = (omega (arith, least-le d b), may.formed)
 fitting_kind d b (Dual lambda mu) may = (omega (arith, least-le d b), may.formed)
 fitting_kind d b Full may = (omega (arith, least-le d b), refl)
 
-pub row_head : (d b : ℕ) → Row (Between (least_kind d b) 4) HasKind (FitsAt d b) one_byte head_body head_bytes (λ kind head. head)
+pub row_head : (d b : ℕ)
+    → Row (Between (least_kind d b) 4) HasKind (FitsAt d b) one_byte head_body head_bytes (λ kind head. head)
 row_head d b = record {
   joined = head_fits d b;
   spelled = λ kind head may will. part_split (head_part head) ∙ ap (λ k. k ∷ head_body head) will.kind_is;
@@ -295,28 +314,34 @@ pub head_known : (d b : ℕ) → Known (FitsAt d b) head_bytes
 head_known d b = row_unique (row_head d b) (λ kind may. body_known kind)
 
 -- bytes that end inside so many needs, and bytes that are no needs
-front_passes : (p : ℕ → Bool) (xs ys more rest : List ℕ) → list_all p ys ≡ true → xs ++ more ≡ ys ++ rest → list_all p (take (length ys) xs) ≡ true
+front_passes : (p : ℕ → Bool) (xs ys more rest : List ℕ) → list_all p ys ≡ true → xs ++ more ≡ ys ++ rest
+    → list_all p (take (length ys) xs) ≡ true
 front_passes p [] ys more rest all agree = ap (list_all p) (take-nil (length ys))
 front_passes p (x ∷ xs) [] more rest all agree = refl
 front_passes p (x ∷ xs) (y ∷ ys) more rest all agree =
     let here : x ≡ y = cc in
     let others : xs ++ more ≡ ys ++ rest = cc in
     let parts = and_parts (p y) (list_all p ys) all in
-    both_true (p x) (list_all p (take (length ys) xs)) (ap p here ∙ parts.0) (front_passes p xs ys more rest parts.1 others)
+    both_true (p x) (list_all p (take (length ys) xs)) (ap p here ∙ parts.0)
+    (front_passes p xs ys more rest parts.1 others)
 
-pub names_none : (count : ℕ) (bytes : List ℕ) → list_all (λ x. nat_lt x 64) (take count bytes) ≡ false → IsNone (AreNames count) (λ names. names) bytes
+pub names_none : (count : ℕ) (bytes : List ℕ) → list_all (λ x. nat_lt x 64) (take count bytes) ≡ false
+    → IsNone (AreNames count) (λ names. names) bytes
 names_none count bytes none = λ names more rest may agree.
     let all = front_passes (λ x. nat_lt x 64) bytes names more rest may.each agree in
-    let some : list_all (λ x. nat_lt x 64) (take count bytes) ≡ true = ap (λ n. list_all (λ x. nat_lt x 64) (take n bytes)) (sym may.size) ∙ all in
+    let some : list_all (λ x. nat_lt x 64) (take count bytes) ≡ true =
+    ap (λ n. list_all (λ x. nat_lt x 64) (take n bytes)) (sym may.size) ∙ all in
     cc
 
-zeros_after : (xs : List ℕ) (n : ℕ) → list_all (λ x. nat_lt x 64) xs ≡ true → list_all (λ x. nat_lt x 64) (xs ++ replicate n 0) ≡ true
+zeros_after : (xs : List ℕ) (n : ℕ) → list_all (λ x. nat_lt x 64) xs ≡ true
+    → list_all (λ x. nat_lt x 64) (xs ++ replicate n 0) ≡ true
 zeros_after [] n all = (zeros_named n).each
 zeros_after (x ∷ xs) n all =
     let parts = and_parts (nat_lt x 64) (list_all (λ x. nat_lt x 64) xs) all in
     both_true (nat_lt x 64) (list_all (λ x. nat_lt x 64) (xs ++ replicate n 0)) parts.0 (zeros_after xs n parts.1)
 
-pub names_cut : (count : ℕ) (bytes : List ℕ) → list_all (λ x. nat_lt x 64) (take count bytes) ≡ true → length bytes < count → IsCut (AreNames count) (λ names. names) bytes
+pub names_cut : (count : ℕ) (bytes : List ℕ) → list_all (λ x. nat_lt x 64) (take count bytes) ≡ true
+    → length bytes < count → IsCut (AreNames count) (λ names. names) bytes
 names_cut count bytes all few =
     let whole : take count bytes ≡ bytes = take_all count bytes (omega arith) in
     let left = count - length bytes in
@@ -337,24 +362,35 @@ zero_at zero i = refl
 zero_at (suc n) zero = refl
 zero_at (suc n) (suc i) = zero_at n i
 
-low_zeros : (bytes : List ℕ) (n : ℕ) → ((i : ℕ) → get_or bytes i 0 < 256) → (i : ℕ) → get_or (bytes ++ replicate n 0) i 0 < 256
+low_zeros : (bytes : List ℕ) (n : ℕ) → ((i : ℕ) → get_or bytes i 0 < 256) → (i : ℕ)
+    → get_or (bytes ++ replicate n 0) i 0 < 256
 low_zeros bytes n low i =
     elim (cases_lt i (length bytes)) [
       | inl inside ↦ omega (arith, get_or_append_left bytes (replicate n 0) 0 i inside, low i)
-      | inr behind ↦ omega (arith, get_or-append_right bytes (replicate n 0) (length bytes) i 0 refl behind, zero_at n (i - length bytes))
+      | inr behind ↦ omega (
+        arith,
+        get_or-append_right bytes (replicate n 0) (length bytes) i 0 refl behind,
+        zero_at n
+            (i - length bytes),
+      )
     ]
 
 -- eight bytes of which the last is 0 are a number below 2^56
-small_number : (whole : List ℕ) → ((i : ℕ) → get_or whole i 0 < 256) → get_or whole 7 0 ≡ 0 → from_le_bytes w64 whole < 2 ^ 56
+small_number : (whole : List ℕ) → ((i : ℕ) → get_or whole i 0 < 256) → get_or whole 7 0 ≡ 0
+    → from_le_bytes w64 whole < 2 ^ 56
 small_number whole low last =
     omega (arith, low 0, low 1, low 2, low 3, low 4, low 5, low 6, last)
 
-pub number_cut : (bytes : List ℕ) → length bytes < 8 → ((i : ℕ) → get_or bytes i 0 < 256) → IsCut IsPrice (λ x. to_le_bytes w64 x) bytes
+pub number_cut : (bytes : List ℕ) → length bytes < 8 → ((i : ℕ) → get_or bytes i 0 < 256)
+    → IsCut IsPrice (λ x. to_le_bytes w64 x) bytes
 number_cut bytes few low =
     let left = 8 - length bytes in
     let whole = bytes ++ replicate left 0 in
-    let last : get_or whole 7 0 ≡ 0 = get_or-append_right bytes (replicate left 0) (length bytes) 7 0 refl (omega arith) ∙ zero_at left (7 - length bytes) in
-    let size : length whole ≡ 8 = length-append bytes (replicate left 0) ∙ omega (arith, length-replicate {A = ℕ} left 0) in
+    let last : get_or whole 7 0 ≡ 0 =
+    get_or-append_right bytes (replicate left 0) (length bytes) 7 0 refl (omega arith)
+    ∙ zero_at left (7 - length bytes) in
+    let size : length whole ≡ 8 =
+    length-append bytes (replicate left 0) ∙ omega (arith, length-replicate {A = ℕ} left 0) in
     record {
       thing = from_le_bytes w64 whole;
       rest = replicate left 0;
@@ -364,34 +400,58 @@ number_cut bytes few low =
     }
 
 -- bytes that end before a byte
-pub byte_cut : (least most : ℕ) (bytes : List ℕ) → least ≤ most → length bytes ≡ 0 → IsCut (Between least most) one_byte bytes
+pub byte_cut : (least most : ℕ) (bytes : List ℕ) → least ≤ most → length bytes ≡ 0
+    → IsCut (Between least most) one_byte bytes
 byte_cut least most [] range none =
-    record { thing = least; rest = least ∷ []; may = record { low = omega arith; high = range }; some = omega arith; parts = refl }
+    record {
+      thing = least;
+      rest = least ∷ [];
+      may = record
+          { low = omega arith; high = range };
+      some = omega arith;
+      parts = refl;
+    }
 byte_cut least most (x ∷ xs) range none = absurd (omega arith)
 
 -- a Branch's faults are those of its count
-pub branch_fails : (bytes : List ℕ) (fault : TreeBytesFault) → Fails (Between 1 8) one_byte bytes fault → Fails (HasKind 0) head_body bytes fault
+pub branch_fails : (bytes : List ℕ) (fault : TreeBytesFault) → Fails (Between 1 8) one_byte bytes fault
+    → Fails (HasKind 0) head_body bytes fault
 branch_fails bytes Short cut =
-    record { thing = Branch cut.thing; rest = cut.rest; may = branch_sound cut.thing cut.may; some = cut.some; parts = cut.parts }
+    record {
+      thing = Branch cut.thing;
+      rest = cut.rest;
+      may = branch_sound cut.thing cut.may;
+      some = cut.some;
+      parts = cut.parts;
+    }
 branch_fails bytes Shape none = λ head more rest may agree.
     let parts = branch_apart head may in
     none parts.0 more rest parts.1 (agree ∙ ap (λ h. head_body h ++ rest) parts.2)
 branch_fails bytes Memory none = tt
 
 -- the numbers that were read, and one more
-pub numbers_stand : (bytes rest : List ℕ) (i at k : ℕ) (xs : List ℕ) (x : ℕ) → Stands (Several IsPrice no_cost i 0) in_eights bytes xs at → rest ≡ drop at bytes → Stands IsPrice (λ x. to_le_bytes w64 x) rest x k
+pub numbers_stand : (bytes rest : List ℕ) (i at k : ℕ) (xs : List ℕ) (x : ℕ)
+    → Stands (Several IsPrice no_cost i 0) in_eights bytes xs at → rest ≡ drop at bytes
+    → Stands IsPrice (λ x. to_le_bytes w64 x) rest x k
     → Stands (Several IsPrice no_cost (i + 1) 0) in_eights bytes (xs ++ x ∷ []) (at + k)
 numbers_stand bytes rest i at k xs x before place here =
-    let next = free_stands (drop at bytes) x k refl (subst (λ ys. Stands IsPrice (λ x. to_le_bytes w64 x) ys x k) place here) in
+    let next = free_stands (drop at bytes) x k refl
+    (subst (λ ys. Stands IsPrice (λ x. to_le_bytes w64 x) ys x k) place here) in
     stands_more bytes i 0 0 at k xs x before next (omega (arith, free xs))
 
-pub numbers_hang : (count : ℕ) (bytes rest : List ℕ) (i at k x : ℕ) → i < count → Hangs IsPrice (λ x. to_le_bytes w64 x) no_cost count 0 bytes (count - i) 0 at → rest ≡ drop at bytes → Stands IsPrice (λ x. to_le_bytes w64 x) rest x k
+pub numbers_hang : (count : ℕ) (bytes rest : List ℕ) (i at k x : ℕ) → i < count
+    → Hangs IsPrice (λ x. to_le_bytes w64 x) no_cost count 0 bytes (count - i) 0 at → rest ≡ drop at bytes
+    → Stands IsPrice (λ x. to_le_bytes w64 x) rest x k
     → Hangs IsPrice (λ x. to_le_bytes w64 x) no_cost count 0 bytes (count - (i + 1)) 0 (at + k)
 numbers_hang count bytes rest i at k x within hangs place here =
-    let next = free_stands (drop at bytes) x k refl (subst (λ ys. Stands IsPrice (λ x. to_le_bytes w64 x) ys x k) place here) in
+    let next = free_stands (drop at bytes) x k refl
+    (subst (λ ys. Stands IsPrice (λ x. to_le_bytes w64 x) ys x k) place here) in
     hangs_more number_known zero_price count 0 bytes (count - i) (count - (i + 1)) 0 at k x hangs (omega arith) next
 
-pub numbers_fail : (count : ℕ) (bytes rest : List ℕ) (i at : ℕ) (fault : TreeBytesFault) → i < count → Hangs IsPrice (λ x. to_le_bytes w64 x) no_cost count 0 bytes (count - i) 0 at → rest ≡ drop at bytes → Fails IsPrice (λ x. to_le_bytes w64 x) rest fault
+pub numbers_fail : (count : ℕ) (bytes rest : List ℕ) (i at : ℕ) (fault : TreeBytesFault) → i < count
+    → Hangs IsPrice (λ x. to_le_bytes w64 x) no_cost count 0 bytes (count - i) 0 at → rest ≡ drop at bytes
+    → Fails IsPrice (λ x. to_le_bytes w64 x) rest fault
     → Fails (Several IsPrice no_cost count 0) in_eights bytes fault
 numbers_fail count bytes rest i at fault within hangs place fails =
-    hangs_first number_known zero_price count 0 bytes rest (count - i) (count - (i + 1)) 0 at hangs (omega arith) fault place (free_fails IsPrice (λ x. to_le_bytes w64 x) rest fault (λ x. refl) fails)
+    hangs_first number_known zero_price count 0 bytes rest (count - i) (count - (i + 1)) 0 at hangs
+    (omega arith) fault place (free_fails IsPrice (λ x. to_le_bytes w64 x) rest fault (λ x. refl) fails)

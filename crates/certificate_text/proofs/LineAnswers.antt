@@ -169,7 +169,8 @@ counted_answer limit most bytes small few =
               numbers.1,
               counted_from limit most found.0 bytes found.1 numbers.0 numbers.1 within found.3 numbers.2,
             )
-            | inr none ↦ inr (counted_stuck limit most found.0 bytes found.1 within (omega (arith, few)) found.4 found.3 none)
+            | inr none ↦ inr (counted_stuck limit most found.0 bytes found.1 within
+                (omega (arith, few)) found.4 found.3 none)
           ]
     ]
 
@@ -206,7 +207,11 @@ branch_answer bytes =
               let spelled : decimal found.0 ≡ bytes =
               sym (found.3 ∙ ap (λ (rest : List ℕ). decimal found.0 ++ rest) empty ∙ append-nil (decimal found.0)) in (
                 Some (Branch found.0),
-                ((branch_sound found.0 range).sound, ap (λ (word : List ℕ). codes "branch " ++ (word ++ codes "\n")) spelled),
+                (
+                  (branch_sound found.0 range).sound,
+                  ap
+                      (λ (word : List ℕ). codes "branch " ++ (word ++ codes "\n")) spelled,
+                ),
               )
         ]
       ]
@@ -232,8 +237,10 @@ hall_answer bytes =
         | inl empty ↦ (
           Some (Hall found.0),
           (
-            both_true (nat_le (length found.0) 64) (are_below 64 found.0) (le-leb (length found.0) 64 found.2.few) found.2.below,
-            ap (λ (words : List ℕ). codes "hall " ++ (words ++ codes "\n")) (counted_alone 64 64 bytes found.0 found.1 found.2 empty),
+            both_true (nat_le (length found.0) 64) (are_below 64 found.0)
+                (le-leb (length found.0) 64 found.2.few) found.2.below,
+            ap (λ (words : List ℕ). codes "hall " ++ (words ++ codes "\n"))
+                (counted_alone 64 64 bytes found.0 found.1 found.2 empty),
           ),
         )
       ]
@@ -256,7 +263,8 @@ dual_spelled lambda mu bytes behind second rest first is last empty =
     let whole : counted lambda ++ (codes " " ++ counted mu) ≡ bytes =
     ap (λ (word : List ℕ). counted lambda ++ (codes " " ++ word)) mus
     ∙ ap (λ (more : List ℕ). counted lambda ++ more) (sym is) ∙ sym first.parts in
-    ap (λ (tail : List ℕ). codes "dual " ++ tail) (dual_line lambda mu ∙ ap (λ (word : List ℕ). word ++ codes "\n") whole)
+    ap (λ (tail : List ℕ). codes "dual " ++ tail)
+    (dual_line lambda mu ∙ ap (λ (word : List ℕ). word ++ codes "\n") whole)
 
 dual_answer : (bytes : List ℕ) → LineAnswer (codes "dual " ++ bytes)
 unfolding CountedStand LineAnswer
@@ -316,7 +324,8 @@ full_answer = (Some Full, (refl, refl))
 abbrev HasNot : List ℕ → List ℕ → Type 0
 HasNot line word = (bytes : List ℕ) → line ≡ word ++ bytes → ⊥
 
-leaf_answer : (line : List ℕ) → HasNot line (codes "branch ") → HasNot line (codes "hall ") → HasNot line (codes "dual ")
+leaf_answer : (line : List ℕ) → HasNot line (codes "branch ") → HasNot line (codes "hall ")
+    → HasNot line (codes "dual ")
     → LineAnswer line
 unfolding LineAnswer
 leaf_answer line branch hall dual =

@@ -28,7 +28,8 @@ append_apart {A} (x ∷ a) b (y ∷ c) d long same =
     (cc (parts.0), parts.1)
 
 -- digits lengthen the digits at the front
-pub prefix_len-digits : (ds after : List ℕ) → all_ascii_digits ds ≡ true → prefix_len is_ascii_digit (ds ++ after) ≡ length ds + prefix_len is_ascii_digit after
+pub prefix_len-digits : (ds after : List ℕ) → all_ascii_digits ds ≡ true
+    → prefix_len is_ascii_digit (ds ++ after) ≡ length ds + prefix_len is_ascii_digit after
 prefix_len-digits [] after all = omega arith
 prefix_len-digits (c ∷ cs) after all =
     let parts = and_parts (is_ascii_digit c) (all_ascii_digits cs) all in
@@ -36,7 +37,8 @@ prefix_len-digits (c ∷ cs) after all =
     rw parts.0 (omega (arith, rest))
 
 -- the digits at the front are digits
-digits-take_one : (b : Bool) (c : ℕ) (cs : List ℕ) (n : ℕ) → is_ascii_digit c ≡ b → all_ascii_digits (take n cs) ≡ true → all_ascii_digits (take (cond b (1 + n) 0) (c ∷ cs)) ≡ true
+digits-take_one : (b : Bool) (c : ℕ) (cs : List ℕ) (n : ℕ) → is_ascii_digit c ≡ b → all_ascii_digits (take n cs) ≡ true
+    → all_ascii_digits (take (cond b (1 + n) 0) (c ∷ cs)) ≡ true
 digits-take_one false c cs n is rest = refl
 digits-take_one true c cs n is rest =
     let one : 1 + n ≡ suc n = omega arith in
@@ -47,7 +49,8 @@ digits-take [] = refl
 digits-take (c ∷ cs) = digits-take_one (is_ascii_digit c) c cs (prefix_len is_ascii_digit cs) refl (digits-take cs)
 
 -- and none follows them
-parted-drop_one : (b : Bool) (c : ℕ) (cs : List ℕ) (n : ℕ) → is_ascii_digit c ≡ b → IsParted (drop n cs) → IsParted (drop (cond b (1 + n) 0) (c ∷ cs))
+parted-drop_one : (b : Bool) (c : ℕ) (cs : List ℕ) (n : ℕ) → is_ascii_digit c ≡ b → IsParted (drop n cs)
+    → IsParted (drop (cond b (1 + n) 0) (c ∷ cs))
 parted-drop_one false c cs n is rest = rw is refl
 parted-drop_one true c cs n is rest =
     let one : 1 + n ≡ suc n = omega arith in
@@ -57,22 +60,28 @@ pub parted-drop : (bytes : List ℕ) → IsParted (drop (prefix_len is_ascii_dig
 parted-drop [] = refl
 parted-drop (c ∷ cs) = parted-drop_one (is_ascii_digit c) c cs (prefix_len is_ascii_digit cs) refl (parted-drop cs)
 
-pub prefix_len-number : (n : ℕ) (after : List ℕ) → n < 2 ^ 64 → IsParted after → prefix_len is_ascii_digit (decimal n ++ after) ≡ length (decimal n)
+pub prefix_len-number : (n : ℕ) (after : List ℕ) → n < 2 ^ 64 → IsParted after
+    → prefix_len is_ascii_digit (decimal n ++ after) ≡ length (decimal n)
 prefix_len-number n after small parted =
     let all = prefix_len-digits (decimal n) after (digits_decimal own n small) in
     omega (arith, all, parted)
 
 -- the number at the front, and what stands behind it, are told apart
-pub number_apart : (m n : ℕ) (u v : List ℕ) → m < 2 ^ 64 → n < 2 ^ 64 → IsParted u → IsParted v → decimal m ++ u ≡ decimal n ++ v → (m ≡ n) × (u ≡ v)
+pub number_apart : (m n : ℕ) (u v : List ℕ) → m < 2 ^ 64 → n < 2 ^ 64 → IsParted u → IsParted v
+    → decimal m ++ u ≡ decimal n ++ v → (m ≡ n) × (u ≡ v)
 number_apart m n u v small_m small_n parted_u parted_v same =
-    let long : length (decimal m) ≡ length (decimal n) = sym (prefix_len-number m u small_m parted_u) ∙ (ap (λ bytes. prefix_len is_ascii_digit bytes) same ∙ prefix_len-number n v small_n parted_v) in
+    let long : length (decimal m) ≡ length (decimal n) =
+    sym (prefix_len-number m u small_m parted_u)
+    ∙ (ap (λ bytes. prefix_len is_ascii_digit bytes) same ∙ prefix_len-number n v small_n parted_v) in
     let parts = append_apart (decimal m) u (decimal n) v long same in
     (decimal_injective m n small_m small_n parts.0, parts.1)
 
 -- the number at the front is written by the digits at the front
-pub front_is_number : (n : ℕ) (bytes after : List ℕ) → n < 2 ^ 64 → IsParted after → bytes ≡ decimal n ++ after → take (prefix_len is_ascii_digit bytes) bytes ≡ decimal n
+pub front_is_number : (n : ℕ) (bytes after : List ℕ) → n < 2 ^ 64 → IsParted after → bytes ≡ decimal n ++ after
+    → take (prefix_len is_ascii_digit bytes) bytes ≡ decimal n
 front_is_number n bytes after small parted spelled =
-    let size : prefix_len is_ascii_digit bytes ≡ length (decimal n) = ap (λ bs. prefix_len is_ascii_digit bs) spelled ∙ prefix_len-number n after small parted in
+    let size : prefix_len is_ascii_digit bytes ≡ length (decimal n) =
+    ap (λ bs. prefix_len is_ascii_digit bs) spelled ∙ prefix_len-number n after small parted in
     rw (size, spelled) (take-append_seam (decimal n) after)
 
 -- what follows the first digit of a zero
@@ -90,18 +99,23 @@ digits-front (c ∷ cs) (suc i) all =
 
 -- so many digits write no more than a power of ten
 pub value_below : (ds : List ℕ) (i k : ℕ) → all_ascii_digits ds ≡ true → i ≤ k → digits_value 10 (take i ds) < 10 ^ k
-value_below ds i k all few = digits_value_short own (take i ds) k (digits-front ds i all) (simp length-take (omega arith))
+value_below ds i k all few =
+    digits_value_short own (take i ds) k (digits-front ds i all) (simp length-take (omega arith))
 
 -- one more digit
-pub value_more : (ds : List ℕ) (i : ℕ) → all_ascii_digits ds ≡ true → i < length ds → IsInRange 48 57 (get_or ds i 0) × (digits_value 10 (take (i + 1) ds) ≡ digits_value 10 (take i ds) * 10 + (get_or ds i 0 - 48))
+pub value_more : (ds : List ℕ) (i : ℕ) → all_ascii_digits ds ≡ true → i < length ds
+    → IsInRange 48 57 (get_or ds i 0) ×
+    (digits_value 10 (take (i + 1) ds) ≡ digits_value 10 (take i ds) * 10 + (get_or ds i 0 - 48))
 value_more ds i all less =
     let digit = digit_at ds i (own.to ds all) less in
     (digit, omega (arith, digits_value_more 10 ds i less, digit_value_digit (get_or ds i 0) digit, digit.0, digit.1))
 
 -- digits that begin with no zero are a numeral
-pub numeral_is_value : (ds : List ℕ) → all_ascii_digits ds ≡ true → 0 < length ds → length ds ≤ 17 → get_or ds 0 0 ≢ 48 → decimal (digits_value 10 ds) ≡ ds
+pub numeral_is_value : (ds : List ℕ) → all_ascii_digits ds ≡ true → 0 < length ds → length ds ≤ 17 → get_or ds 0 0 ≢ 48
+    → decimal (digits_value 10 ds) ≡ ds
 numeral_is_value ds all some few first =
-    decimal-digits_value own ds all some (λ zero_first. absurd (first zero_first)) (omega (arith, digits_value_short own ds 17 all few))
+    decimal-digits_value own ds all some (λ zero_first. absurd (first zero_first))
+    (omega (arith, digits_value_short own ds 17 all few))
 
 -- a zero digit alone is the numeral of zero
 pub zero_is : (ds : List ℕ) → length ds ≡ 1 → get_or ds 0 0 ≡ 48 → decimal 0 ≡ ds

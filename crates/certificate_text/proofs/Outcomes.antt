@@ -11,7 +11,8 @@ when_none P Q None told = told
 when_none P Q (Some value) told = tt
 
 -- what is said where none was found says more
-pub none_says : {A E P Q : Type 0} (read : Result (Option A) E) → (P → Q) → IfOk read (λ found. IfNone found P) → IfOk read (λ found. IfNone found Q)
+pub none_says : {A E P Q : Type 0} (read : Result (Option A) E) → (P → Q) → IfOk read (λ found. IfNone found P)
+    → IfOk read (λ found. IfNone found Q)
 none_says (Ok None) more told = more told
 none_says (Ok (Some value)) more told = tt
 none_says (Err fault) more told = tt

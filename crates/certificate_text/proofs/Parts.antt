@@ -26,7 +26,8 @@ parts_of-out tree =
     let layer = map-Tree Tree (List Part) fold (out-Tree tree) in
     fold_out-Tree (List Part) parts_step tree
     ∙ ap (λ (part : Part). part ∷ flat_map (λ parts. parts) (children_step layer)) (part_step-map fold (out-Tree tree))
-    ∙ ap (λ (lists : List (List Part)). part_of tree ∷ flat_map (λ parts. parts) lists) (children_step-map fold (out-Tree tree))
+    ∙ ap (λ (lists : List (List Part)). part_of tree ∷ flat_map (λ parts. parts) lists)
+    (children_step-map fold (out-Tree tree))
     ∙ ap (λ (parts : List Part). part_of tree ∷ parts) (flat_map-map (λ parts. parts) fold (children_of tree))
 
 -- a tree is known by its root's part and its children
@@ -54,25 +55,30 @@ rolled = ind-Tree (λ tree. roll-Tree (out-Tree tree) ≡ tree) (λ x y is. ap r
 pub tree_is : (t u : Tree) → part_of t ≡ part_of u → children_of t ≡ children_of u → t ≡ u
 tree_is t u part children =
     let layers : out-Tree t ≡ out-Tree u =
-    sym (layer_is (out-Tree t)) ∙ ap (λ p. layer_of p (children_of t)) part ∙ ap (layer_of (part_of u)) children ∙ layer_is (out-Tree u) in
+    sym (layer_is (out-Tree t)) ∙ ap (λ p. layer_of p (children_of t)) part ∙ ap (layer_of (part_of u)) children
+    ∙ layer_is (out-Tree u) in
     sym (rolled t) ∙ ap roll-Tree layers ∙ rolled u
 
 -- a tree's list of nodes ends by itself: no other tree's begins with it
 abbrev pub EndsByItself : Tree → Type 0
 EndsByItself t = (u : Tree) (x y : List Part) → parts_of t ++ x ≡ parts_of u ++ y → (t ≡ u) × (x ≡ y)
 
-all_end : (ts us : List Tree) → AllByRecursion EndsByItself ts → length ts ≡ length us → (x y : List Part) → flat_map parts_of ts ++ x ≡ flat_map parts_of us ++ y → (ts ≡ us) × (x ≡ y)
+all_end : (ts us : List Tree) → AllByRecursion EndsByItself ts → length ts ≡ length us → (x y : List Part)
+    → flat_map parts_of ts ++ x ≡ flat_map parts_of us ++ y → (ts ≡ us) × (x ≡ y)
 all_end [] [] each count x y is = (refl, is)
 all_end [] (u ∷ us) each count x y is = grind (arith)
 all_end (t ∷ ts) [] each count x y is = grind (arith)
 all_end (t ∷ ts) (u ∷ us) each count x y is =
-    let first = each.0 u (flat_map parts_of ts ++ x) (flat_map parts_of us ++ y) (sym (append_assoc (parts_of t) (flat_map parts_of ts) x) ∙ is ∙ append_assoc (parts_of u) (flat_map parts_of us) y) in
+    let first = each.0 u (flat_map parts_of ts ++ x) (flat_map parts_of us ++ y)
+    (sym (append_assoc (parts_of t) (flat_map parts_of ts) x) ∙ is
+    ∙ append_assoc (parts_of u) (flat_map parts_of us) y) in
     let others = all_end ts us each.1 (omega (arith, count)) x y first.1 in
     (ap (λ e. e ∷ ts) first.0 ∙ ap (λ es. u ∷ es) others.0, others.1)
 
 ends_step : (t : Tree) → AllByRecursion EndsByItself (children_of t) → EndsByItself t
 ends_step t each u x y is =
-    let whole : part_of t ∷ (flat_map parts_of (children_of t) ++ x) ≡ part_of u ∷ (flat_map parts_of (children_of u) ++ y) =
+    let whole : part_of t ∷ (flat_map parts_of (children_of t) ++ x) ≡ part_of u ∷
+    (flat_map parts_of (children_of u) ++ y) =
     sym (ap (λ ps. ps ++ x) (parts_of-out t)) ∙ is ∙ ap (λ ps. ps ++ y) (parts_of-out u) in
     let part : part_of t ≡ part_of u = ap (λ ps. slice_index_or ps 0 OverPart) whole in
     let count = fan-part_of t ∙ ap fan part ∙ sym (fan-part_of u) in
@@ -88,22 +94,35 @@ pub record GoesOnAs (ts us : List Tree) (x y : List Part) : Type 0 where
   pub trees : us ≡ ts ++ others
   pub rest : x ≡ flat_map parts_of others ++ y
 
-pub all_go_on : (ts us : List Tree) (x y : List Part) → length ts ≤ length us → flat_map parts_of ts ++ x ≡ flat_map parts_of us ++ y → GoesOnAs ts us x y
+pub all_go_on : (ts us : List Tree) (x y : List Part) → length ts ≤ length us
+    → flat_map parts_of ts ++ x ≡ flat_map parts_of us ++ y → GoesOnAs ts us x y
 all_go_on [] us x y few is = record { others = us; trees = refl; rest = is }
 all_go_on (t ∷ ts) [] x y few is = grind (arith)
 all_go_on (t ∷ ts) (u ∷ us) x y few is =
-    let first = ends_by_itself t u (flat_map parts_of ts ++ x) (flat_map parts_of us ++ y) (sym (append_assoc (parts_of t) (flat_map parts_of ts) x) ∙ is ∙ append_assoc (parts_of u) (flat_map parts_of us) y) in
+    let first = ends_by_itself t u (flat_map parts_of ts ++ x) (flat_map parts_of us ++ y)
+    (sym (append_assoc (parts_of t) (flat_map parts_of ts) x) ∙ is
+    ∙ append_assoc (parts_of u) (flat_map parts_of us) y) in
     let others = all_go_on ts us x y (omega (arith, few)) first.1 in
-    record { others = others.others; trees = ap (λ e. e ∷ us) (sym first.0) ∙ ap (λ es. t ∷ es) others.trees; rest = others.rest }
+    record {
+      others = others.others;
+      trees = ap (λ e. e ∷ us) (sym first.0)
+          ∙ ap (λ es. t ∷ es) others.trees;
+      rest = others.rest;
+    }
 
 -- what a tree spells, part by part
-all_spell : (spell : Part → List ℕ) (f : Tree → List ℕ) (ts : List Tree) → AllByRecursion (λ t. f t ≡ flat_map spell (parts_of t)) ts → concat (map f ts) ≡ flat_map spell (flat_map parts_of ts)
+all_spell : (spell : Part → List ℕ) (f : Tree → List ℕ) (ts : List Tree)
+    → AllByRecursion (λ t. f t ≡ flat_map spell (parts_of t)) ts
+    → concat (map f ts) ≡ flat_map spell (flat_map parts_of ts)
 all_spell spell f [] each = refl
 all_spell spell f (t ∷ ts) each =
-    ap (λ xs. xs ++ concat (map f ts)) each.0 ∙ ap (λ xs. flat_map spell (parts_of t) ++ xs) (all_spell spell f ts each.1)
+    ap (λ xs. xs ++ concat (map f ts)) each.0
+    ∙ ap (λ xs. flat_map spell (parts_of t) ++ xs) (all_spell spell f ts each.1)
     ∙ sym (flat_map-append spell (parts_of t) (flat_map parts_of ts))
 
-pub spelled : (spell : Part → List ℕ) (f : Tree → List ℕ) → ((t : Tree) → f t ≡ spell (part_of t) ++ concat (map f (children_of t))) → (t : Tree) → f t ≡ flat_map spell (parts_of t)
+pub spelled : (spell : Part → List ℕ) (f : Tree → List ℕ)
+    → ((t : Tree) → f t ≡ spell (part_of t) ++ concat (map f (children_of t))) → (t : Tree)
+    → f t ≡ flat_map spell (parts_of t)
 spelled spell f out = tree_induction (λ t. f t ≡ flat_map spell (parts_of t)) (λ t each.
     out t ∙ ap (λ xs. spell (part_of t) ++ xs) (all_spell spell f (children_of t) each)
     ∙ sym (ap (flat_map spell) (parts_of-out t)))
@@ -115,7 +134,8 @@ pub bytes_of-parts : (t : Tree) → bytes_of t ≡ flat_map part_bytes (parts_of
 bytes_of-parts = spelled part_bytes bytes_of bytes_of-out
 
 -- as many parts as nodes
-all_counted : (ts : List Tree) → AllByRecursion (λ t. length (parts_of t) ≡ nodes t) ts → length (flat_map parts_of ts) ≡ sum (map nodes ts)
+all_counted : (ts : List Tree) → AllByRecursion (λ t. length (parts_of t) ≡ nodes t) ts
+    → length (flat_map parts_of ts) ≡ sum (map nodes ts)
 all_counted [] each = refl
 all_counted (t ∷ ts) each =
     length-append (parts_of t) (flat_map parts_of ts) ∙ ap (λ n. n + length (flat_map parts_of ts)) each.0

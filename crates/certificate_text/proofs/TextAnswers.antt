@@ -70,7 +70,8 @@ node_answer before =
 -- a node that can stand there, or can't
 StandAnswer : ℕ → ℕ → NodeHead → Type 0
 StandAnswer d b head =
-    ((left : ℕ) × (is_formed_part d (head_part head) ≡ true) × (b ≡ cond {A = ℕ} (is_branch (head_part head)) 1 0 + left))
+    ((left : ℕ) × (is_formed_part d (head_part head) ≡ true) ×
+    (b ≡ cond {A = ℕ} (is_branch (head_part head)) 1 0 + left))
     ⊎ (CanStand d b (head_part head) → ⊥)
 
 branch_deep : (d c : ℕ) → 64 ≤ d → is_formed_part d (head_part (Branch c)) ≡ true → ⊥
@@ -199,7 +200,8 @@ headed_answer d before head each =
     ]
 
 tree_answer : (f d : ℕ) (before : Cursor) → d + f ≡ 64 → TreeAnswer d before
-tree_answer zero d before deep = headed_answer d before (head_answer d before) (λ above. absurd (omega (arith, deep, above)))
+tree_answer zero d before deep =
+    headed_answer d before (head_answer d before) (λ above. absurd (omega (arith, deep, above)))
 tree_answer (suc f) d before deep =
     headed_answer d before (head_answer d before) (λ above cursor. tree_answer f (d + 1) cursor (omega (arith, deep)))
 
@@ -247,7 +249,11 @@ head_line_answer (suc fuel) start now so_far few =
           let less : length found.1 < fuel =
           omega (arith, few, ap length found.3, length-append (ended line) found.1, length-append line (codes "\n")) in
           elim (same_list_or_not line head_line) [
-            | inl is ↦ inl (next, head_passed start now next so_far (subst (λ (l : List ℕ). HasPassed now next l) is passed))
+            | inl is ↦ inl (
+              next,
+              head_passed start now next so_far
+                  (subst (λ (l : List ℕ). HasPassed now next l) is passed),
+            )
             | inr other ↦ head_line_answer fuel start next (passes_other start now next line so_far passed other) less
           ]
     ]

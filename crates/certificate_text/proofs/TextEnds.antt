@@ -16,7 +16,8 @@ refuted test fails says holds =
     cc
 
 -- one more line is passed
-pub passes_other : (start now next : Cursor) (line : List ℕ) → HavePassed start now → HasPassed now next line → line ≢ head_line → HavePassed start next
+pub passes_other : (start now next : Cursor) (line : List ℕ) → HavePassed start now → HasPassed now next line
+    → line ≢ head_line → HavePassed start next
 passes_other start now next line so_far passed other =
     let one = line ∷ [] in
     record {
@@ -39,8 +40,10 @@ head_cut start now so_far is = record {
   place = so_far.number;
 }
 
-pub no_end : (before after : Cursor) (line : List ℕ) → HasPassed before after line → line ≢ end_line → HasNoEnd before before.number
+pub no_end : (before after : Cursor) (line : List ℕ) → HasPassed before after line → line ≢ end_line
+    → HasNoEnd before before.number
 no_end before after line passed other = record {
-  none = λ behind same. other (same_first_line line end_line after.rest.now behind passed.whole end_is_line (sym passed.split ∙ same)).0;
+  none = λ behind same. other
+      (same_first_line line end_line after.rest.now behind passed.whole end_is_line (sym passed.split ∙ same)).0;
   place = refl;
 }

@@ -32,15 +32,18 @@ pub record IsApart {X : Type 0} (spell : X → List ℕ) (P : X → Type 0) : Ty
   pub first : (a b : X) (x y : List ℕ) → P a → P b → spell a ++ x ≡ spell b ++ y → (a ≡ b) × (x ≡ y)
 
 -- of two readings of one text, one extends the other
-pub one_extends : {X : Type 0} (spell : X → List ℕ) (P : X → Type 0) → IsApart spell P → (f g : List X) (x y : List ℕ) → AllByRecursion P f → AllByRecursion P g
+pub one_extends : {X : Type 0} (spell : X → List ℕ) (P : X → Type 0) → IsApart spell P → (f g : List X) (x y : List ℕ)
+    → AllByRecursion P f → AllByRecursion P g
     → flat_map spell f ++ x ≡ flat_map spell g ++ y → Extends spell f g x y ⊎ Extends spell g f y x
 one_extends spell P apart [] g x y each_f each_g same = inl (record { more = g; pieces = refl; rest = same })
-one_extends spell P apart (a ∷ f) [] x y each_f each_g same = inr (record { more = a ∷ f; pieces = refl; rest = sym same })
+one_extends spell P apart (a ∷ f) [] x y each_f each_g same =
+    inr (record { more = a ∷ f; pieces = refl; rest = sym same })
 one_extends spell P apart (a ∷ f) (b ∷ g) x y each_f each_g same =
     let here = apart.first a b (flat_map spell f ++ x) (flat_map spell g ++ y) each_f.0 each_g.0
     (sym (append_assoc (spell a) (flat_map spell f) x) ∙ same ∙ append_assoc (spell b) (flat_map spell g) y) in
     elim (one_extends spell P apart f g x y each_f.1 each_g.1 here.1) [
-      | inl behind ↦ inl (record { more = behind.more; pieces = λ i. sym here.0 i ∷ behind.pieces i; rest = behind.rest })
+      | inl behind ↦ inl (record
+          { more = behind.more; pieces = λ i. sym here.0 i ∷ behind.pieces i; rest = behind.rest })
       | inr behind ↦ inr (record { more = behind.more; pieces = λ i. here.0 i ∷ behind.pieces i; rest = behind.rest })
     ]
 
@@ -66,7 +69,8 @@ halts_head rest = record {
 }
 
 -- the lines that are passed over are the same in each reading
-pub same_fronts : (f g : List (List ℕ)) (x y : List ℕ) → AllByRecursion IsOther f → AllByRecursion IsOther g → Halts x → Halts y
+pub same_fronts : (f g : List (List ℕ)) (x y : List ℕ) → AllByRecursion IsOther f → AllByRecursion IsOther g → Halts x
+    → Halts y
     → lines_text f ++ x ≡ lines_text g ++ y → (f ≡ g) × (x ≡ y)
 same_fronts [] [] x y passed_f passed_g halts_x halts_y same = (refl, same)
 same_fronts [] (b ∷ g) x y passed_f passed_g halts_x halts_y same =

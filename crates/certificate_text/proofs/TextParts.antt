@@ -27,7 +27,8 @@ sound_at d (HallPart names) formed = formed
 sound_at d (DualPart lambda mu) formed = formed
 sound_at d FullPart formed = formed
 
-pub all_append : {X : Type 0} (P : X → Type 0) (f g : List X) → AllByRecursion P f → AllByRecursion P g → AllByRecursion P (f ++ g)
+pub all_append : {X : Type 0} (P : X → Type 0) (f g : List X) → AllByRecursion P f → AllByRecursion P g
+    → AllByRecursion P (f ++ g)
 all_append P [] g each_f each_g = each_g
 all_append P (x ∷ f) g each_f each_g = (each_f.0, all_append P f g each_f.1 each_g)
 
@@ -43,7 +44,8 @@ all_behind P (x ∷ f) g each = all_behind P f g each.1
 IsSoundTree : Tree → Type 0
 IsSoundTree tree = (d : ℕ) → is_formed_at tree d ≡ true → AllByRecursion IsSound (parts_of tree)
 
-sound_below : (ts : List Tree) → AllByRecursion IsSoundTree ts → (d : ℕ) → list_all (λ child. child d) (map is_formed_at ts) ≡ true → AllByRecursion IsSound (flat_map parts_of ts)
+sound_below : (ts : List Tree) → AllByRecursion IsSoundTree ts → (d : ℕ)
+    → list_all (λ child. child d) (map is_formed_at ts) ≡ true → AllByRecursion IsSound (flat_map parts_of ts)
 unfolding IsSoundTree
 sound_below [] each d formed = tt
 sound_below (t ∷ ts) each d formed =
@@ -67,7 +69,8 @@ parts_apart = record {
   first = λ p q x y sound_p sound_q same.
       let a = part_line_ended p sound_p in
       let b = part_line_ended q sound_q in
-      let lines : ended a.0 ++ x ≡ ended b.0 ++ y = ap (λ (line : List ℕ). line ++ x) (sym a.2) ∙ same ∙ ap (λ (line : List ℕ). line ++ y) b.2 in
+      let lines : ended a.0 ++ x ≡ ended b.0 ++ y =
+      ap (λ (line : List ℕ). line ++ x) (sym a.2) ∙ same ∙ ap (λ (line : List ℕ). line ++ y) b.2 in
       let first = same_first_line a.0 b.0 x y a.1 b.1 lines in
       (part_line_injective p q sound_p sound_q (a.2 ∙ ap ended first.0 ∙ sym b.2), first.1);
 }
@@ -92,6 +95,7 @@ lines_of_parts (part ∷ parts) sound =
     }
 
 -- a tree's text is the head line, the lines of its nodes and the end line
-pub text_of-parts : (tree : Tree) → text_of tree ≡ ended head_line ++ (flat_map part_line (parts_of tree) ++ codes "end\n")
+pub text_of-parts : (tree : Tree)
+    → text_of tree ≡ ended head_line ++ (flat_map part_line (parts_of tree) ++ codes "end\n")
 unfolding text_of
 text_of-parts tree = ap (λ (lines : List ℕ). ended head_line ++ (lines ++ codes "end\n")) (lines_of-parts tree)

@@ -23,7 +23,8 @@ use Rattle.certificate_text.proofs.TextParts.{sound_parts, text_of-parts}
 size_decimal : (n : ℕ) → n < 2 ^ 56 → length (decimal n) ≤ 17
 size_decimal n small = length-decimal-le 17 n (omega arith) (omega (arith, small)) (omega (arith, small))
 
-size_spaced : (limit : ℕ) (xs : List ℕ) → limit ≤ 2 ^ 56 → are_below limit xs ≡ true → length (flat_map spaced xs) ≤ 18 * length xs
+size_spaced : (limit : ℕ) (xs : List ℕ) → limit ≤ 2 ^ 56 → are_below limit xs ≡ true
+    → length (flat_map spaced xs) ≤ 18 * length xs
 size_spaced limit [] low below = omega arith
 size_spaced limit (x ∷ xs) low below =
     let parts = below_parts limit x xs below in
@@ -31,20 +32,40 @@ size_spaced limit (x ∷ xs) low below =
     let others = size_spaced limit xs low parts.1 in
     omega (arith, length-append (spaced x) (flat_map spaced xs), length-append (codes " ") (decimal x), digits, others)
 
-size_counted : (limit most : ℕ) (xs : List ℕ) → limit ≤ 2 ^ 56 → most ≤ 64 → length xs ≤ most → are_below limit xs ≡ true → length (counted xs) ≤ 17 + 18 * most
+size_counted : (limit most : ℕ) (xs : List ℕ) → limit ≤ 2 ^ 56 → most ≤ 64 → length xs ≤ most
+    → are_below limit xs ≡ true → length (counted xs) ≤ 17 + 18 * most
 size_counted limit most xs low many few below =
-    omega (arith, length-append (decimal (length xs)) (flat_map spaced xs), size_decimal (length xs) (omega (arith, few, many)), size_spaced limit xs low below, few)
+    omega (
+      arith,
+      length-append (decimal (length xs)) (flat_map spaced xs),
+      size_decimal (length xs)
+          (omega (arith, few, many)),
+      size_spaced limit xs low below,
+      few,
+    )
 
 -- a node's line has at most 1769 bytes
 size_part : (part : Part) → IsSound part → length (part_line part) ≤ 1769
 size_part (BranchPart children) sound =
     let digits = size_decimal children (omega (arith, sound_branch children sound)) in
-    omega (arith, length-append (codes "branch ") (decimal children ++ codes "\n"), length-append (decimal children) (codes "\n"), digits)
+    omega (
+      arith,
+      length-append (codes "branch ") (decimal children ++ codes "\n"),
+      length-append (decimal children)
+          (codes "\n"),
+      digits,
+    )
 size_part OverPart sound = omega arith
 size_part (HallPart names) sound =
     let counts = sound_hall names sound in
     let size = size_counted 64 64 names (omega arith) (omega arith) counts.few counts.below in
-    omega (arith, length-append (codes "hall ") (counted names ++ codes "\n"), length-append (counted names) (codes "\n"), size)
+    omega (
+      arith,
+      length-append (codes "hall ") (counted names ++ codes "\n"),
+      length-append (counted names)
+          (codes "\n"),
+      size,
+    )
 size_part (DualPart lambda mu) sound =
     let both = sound_dual lambda mu sound in
     let first = size_counted (2 ^ 56) 64 lambda (omega arith) (omega arith) both.0.few both.0.below in
@@ -60,10 +81,17 @@ size_part (DualPart lambda mu) sound =
     )
 size_part FullPart sound = omega arith
 
-size_parts : (parts : List Part) → AllByRecursion IsSound parts → length (flat_map part_line parts) ≤ 1769 * length parts
+size_parts : (parts : List Part) → AllByRecursion IsSound parts
+    → length (flat_map part_line parts) ≤ 1769 * length parts
 size_parts [] each = omega arith
 size_parts (part ∷ parts) each =
-    omega (arith, length-append (part_line part) (flat_map part_line parts), size_part part each.0, size_parts parts each.1)
+    omega (
+      arith,
+      length-append (part_line part)
+          (flat_map part_line parts),
+      size_part part each.0,
+      size_parts parts each.1,
+    )
 
 -- so the text of a tree within its limits is within the limit of texts
 pub text_fits : (tree : Tree) → is_formed tree ≡ true → length (text_of tree) ≤ text_limit

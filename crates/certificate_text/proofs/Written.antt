@@ -3,7 +3,8 @@ use Rattle.std.proofs.Common.{◌≡◌, ℕ, List, ◌++◌, Result, Ok, Err, s
 use Rattle.std.specs.Prelude.{OnOk}
 
 -- a part appended after another
-pub written : (new mid old first rest whole : List ℕ) → mid ≡ old ++ first → whole ≡ first ++ rest → new ≡ mid ++ rest → new ≡ old ++ whole
+pub written : (new mid old first rest whole : List ℕ) → mid ≡ old ++ first → whole ≡ first ++ rest → new ≡ mid ++ rest
+    → new ≡ old ++ whole
 written new mid old first rest whole before is after =
     after ∙ ap (λ xs. xs ++ rest) before ∙ append_assoc old first rest ∙ sym (ap (λ xs. old ++ xs) is)
 

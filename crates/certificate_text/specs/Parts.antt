@@ -48,7 +48,8 @@ pub record CanStand (d b : ℕ) (part : Part) : Type 0 where
 
 -- bytes that spell so many parts of a tree, and then come to something that is bad where any of these parts could
 -- stand
-pub record Stops (spell : Part → List ℕ) (Bad : (Part → Type 0) → List ℕ → Type 0) (d b : ℕ) (bytes : List ℕ) (count : ℕ) : Type 0 where
+pub record Stops (spell : Part → List ℕ) (Bad : (Part → Type 0) → List ℕ → Type 0) (d b : ℕ) (bytes : List ℕ)
+    (count : ℕ) : Type 0 where
   pub parts : List Part
   pub next : List ℕ
   pub split : bytes ≡ flat_map spell parts ++ next
@@ -57,7 +58,8 @@ pub record Stops (spell : Part → List ℕ) (Bad : (Part → Type 0) → List �
   pub bad : Bad (λ part. Begins d b (parts ++ part ∷ [])) next
 
 -- the same of n trees
-pub record AllStop (spell : Part → List ℕ) (Bad : (Part → Type 0) → List ℕ → Type 0) (d b n : ℕ) (bytes : List ℕ) (count : ℕ) : Type 0 where
+pub record AllStop (spell : Part → List ℕ) (Bad : (Part → Type 0) → List ℕ → Type 0) (d b n : ℕ) (bytes : List ℕ)
+    (count : ℕ) : Type 0 where
   pub parts : List Part
   pub next : List ℕ
   pub split : bytes ≡ flat_map spell parts ++ next

@@ -59,7 +59,8 @@ pub record BreaksAt (text : List ℕ) (number : ℕ) : Type 0 where
   pub lines : AllByRecursion IsLine good
   pub headed : (0 < length good) ⊎ (rest ≡ head_line)
   pub begun : BeginsTree (lines_text good)
-  pub stuck : (line after : List ℕ) → IsLine line → rest ≡ ended line ++ after → BeginsTree (lines_text good ++ ended line) → ⊥
+  pub stuck : (line after : List ℕ) → IsLine line → rest ≡ ended line ++ after
+      → BeginsTree (lines_text good ++ ended line) → ⊥
   pub unfinished : (tree : Tree) → IsTrue (is_formed tree) → text_of tree ≡ lines_text good → 0 < length rest
   pub parts : text ≡ lines_text front ++ (lines_text good ++ rest)
   pub place : number ≡ length front + length good + 1

@@ -5,7 +5,8 @@ use Rattle.certificate_text.specs.declared.fault.TreeBytesFault.{TreeBytesFault}
 use Rattle.certificate_text.specs.declared.fault.TreeBytesFault.TheVariants.{Short, Shape, Memory}
 
 -- the bytes of one that may stand there are at the front, and so many they are
-pub record Stands {X : Type 0} (May : X → Type 0) (spell : X → List ℕ) (bytes : List ℕ) (thing : X) (taken : ℕ) : Type 0 where
+pub record Stands {X : Type 0} (May : X → Type 0) (spell : X → List ℕ) (bytes : List ℕ) (thing : X)
+    (taken : ℕ) : Type 0 where
   pub may : May thing
   pub size : taken ≡ length (spell thing)
   pub parts : bytes ≡ spell thing ++ drop taken bytes

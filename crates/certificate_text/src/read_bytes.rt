@@ -27,7 +27,8 @@ pub fn read_tree_bytes(alloc: Global, bytes: &[u8]) -> Result<(Tree, usize), Tre
     ensures reads { (result ≡ Err Memory) ⊎ ReadsBytes bytes.now result }
 
     // No other answer would do.
-    ensures alone { (other : Result (Tree × ℕ) TreeBytesFault) → ReadsBytes bytes.now other → (result ≡ Err Memory) ⊎ (result ≡ other) }
+    ensures alone { (other : Result (Tree × ℕ) TreeBytesFault) → ReadsBytes bytes.now other →
+        (result ≡ Err Memory) ⊎ (result ≡ other) }
 {
     let mut left = 4096;
     read_tree(alloc, bytes, 0, &mut left)
@@ -67,7 +68,8 @@ fn read_trees(
     left: &mut u16,
 ) -> Result<(Items<Tree>, usize), TreeBytesFault>
     requires { 0 < count → depth ≤ 64 }
-    ensures reads { Reads (Several (IsFormedAt depth) branches count left.old) (λ trees. flat_map bytes_of trees) bytes.now result }
+    ensures reads { Reads (Several (IsFormedAt depth) branches count left.old) (λ trees. flat_map bytes_of trees)
+        bytes.now result }
     ensures left { IfOk result (λ read. left.new + sum (map branches read.0) ≡ left.old) }
 {
     let mut trees = Items::new(alloc);

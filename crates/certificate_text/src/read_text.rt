@@ -21,7 +21,8 @@ pub fn read_tree_text(alloc: Global, text: &[u8]) -> Result<Tree, CertFault>
     ensures reads { (result ≡ Err Memory) ⊎ ReadsText text.now result }
 
     // No other answer would do.
-    ensures alone { (other : Result Tree CertFault) → ReadsText text.now other → (result ≡ Err Memory) ⊎ (result ≡ other) }
+    ensures alone { (other : Result Tree CertFault) → ReadsText text.now other →
+        (result ≡ Err Memory) ⊎ (result ≡ other) }
 {
     tree_in(alloc, text)
 }

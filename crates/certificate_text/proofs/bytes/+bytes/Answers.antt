@@ -29,7 +29,8 @@ pub put_tree-returns : goal.put_tree-returns
 put_tree-returns t c =
     let tree = c.args.tree.now in
     on_ok c.put_trees.result
-    (λ rest. written c.put_trees.new.out.items c.put_part.new.out.items c.args.out.now.items (part_bytes (part_of tree)) (concat (map bytes_of (children_of tree))) (bytes_of tree)
+    (λ rest. written c.put_trees.new.out.items c.put_part.new.out.items c.args.out.now.items
+    (part_bytes (part_of tree)) (concat (map bytes_of (children_of tree))) (bytes_of tree)
     c.in_ok-put_part.ensures (bytes_of-out tree) rest)
     (rw c.children.ensures.value at c.put_trees.ensures)
 
@@ -39,7 +40,8 @@ put_trees-put_tree-requires t c =
     rw c.tree-item.is (nodes_at c.args.trees.now c.loop-tree.tree-index c.tree-item.result c.loop-tree-test.true) in (
       omega (arith, c.decreases, part),
       (
-        rw c.tree-item.is (formed_child c.args.trees.now c.loop-tree.tree-index c.args.depth c.tree-item.result c.requires.formed c.loop-tree-test.true),
+        rw c.tree-item.is (formed_child c.args.trees.now c.loop-tree.tree-index c.args.depth c.tree-item.result
+            c.requires.formed c.loop-tree-test.true),
         c.requires.depth (omega arith),
       ),
     )

@@ -14,4 +14,5 @@ decreases-put_trees l = 2 * sum (map nodes l.trees.now) + 1
 
 abbrev pub invariant-put_trees-loop-tree : goal.invariant-put_trees-loop-tree
 invariant-put_trees-loop-tree l =
-    l.out.items ++ concat (map bytes_of (drop l.tree-index l.trees)) ≡ l.initial.out.items ++ concat (map bytes_of l.trees)
+    l.out.items ++ concat (map bytes_of (drop l.tree-index l.trees)) ≡ l.initial.out.items ++ concat
+    (map bytes_of l.trees)

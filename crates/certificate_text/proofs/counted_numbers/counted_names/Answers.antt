@@ -9,5 +9,6 @@ returns-in_default-clause-none c = counted_none 64 64 c.args.bytes.now c.in_defa
 pub returns-clause-none : goal.returns-clause-none
 returns-clause-none c =
     none_says c.names.result
-    (counted_stuck 64 64 c.in-Some.count c.args.bytes.now c.in-Some.rest.now (omega (arith, c.in-Some.ensures.below)) (omega arith) c.in-Some.ensures.parted c.in-Some.ensures.spelled)
+    (counted_stuck 64 64 c.in-Some.count c.args.bytes.now c.in-Some.rest.now (omega (arith, c.in-Some.ensures.below))
+    (omega arith) c.in-Some.ensures.parted c.in-Some.ensures.spelled)
     c.names.ensures.none

@@ -9,5 +9,6 @@ returns-in_default-clause-none c = counted_none (2 ^ 56) c.args.most c.args.byte
 pub returns-clause-none : goal.returns-clause-none
 returns-clause-none c =
     none_says c.prices.result
-    (counted_stuck (2 ^ 56) c.args.most c.in-Some.count c.args.bytes.now c.in-Some.rest.now (omega (arith, c.in-Some.ensures.below)) (omega arith) c.in-Some.ensures.parted c.in-Some.ensures.spelled)
+    (counted_stuck (2 ^ 56) c.args.most c.in-Some.count c.args.bytes.now c.in-Some.rest.now
+    (omega (arith, c.in-Some.ensures.below)) (omega arith) c.in-Some.ensures.parted c.in-Some.ensures.spelled)
     c.prices.ensures.none

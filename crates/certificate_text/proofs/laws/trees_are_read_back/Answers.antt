@@ -5,7 +5,8 @@ use Rattle.certificate_text.proofs.TextSizes.{text_fits}
 use Rattle.certificate_text.proofs.laws.trees_are_read_back.Goals as goal
 
 pub returns-clause-text : goal.returns-clause-text
-returns-clause-text c = λ tree formed. (text_fits tree formed, record { front = []; passed = tt; formed = formed; parts = refl })
+returns-clause-text c =
+    λ tree formed. (text_fits tree formed, record { front = []; passed = tt; formed = formed; parts = refl })
 
 pub returns-clause-bytes : goal.returns-clause-bytes
 returns-clause-bytes c = λ tree rest formed. record {

@@ -12,11 +12,13 @@ returns-in_default c = λ part sound same.
 
 pub returns-then-children-eq0 : goal.returns-then-children-eq0
 returns-then-children-eq0 c = λ part sound same.
-    let read = branch_read c.args.bytes.now c.in-Some.rest.now c.in-Some.children part c.in-Some.ensures.below c.in-Some.ensures.spelled c.in-Some.ensures.parted sound same in
+    let read = branch_read c.args.bytes.now c.in-Some.rest.now c.in-Some.children part c.in-Some.ensures.below
+    c.in-Some.ensures.spelled c.in-Some.ensures.parted sound same in
     absurd (omega (arith, read.0))
 
 pub returns-else-is_empty : goal.returns-else-is_empty
 returns-else-is_empty c = λ part sound same.
-    let read = branch_read c.args.bytes.now c.in-Some.rest.now c.in-Some.children part c.in-Some.ensures.below c.in-Some.ensures.spelled c.in-Some.ensures.parted sound same in
+    let read = branch_read c.args.bytes.now c.in-Some.rest.now c.in-Some.children part c.in-Some.ensures.below
+    c.in-Some.ensures.spelled c.in-Some.ensures.parted sound same in
     let empty : length c.in-Some.rest.now ≡ 0 = ap (λ bytes. length bytes) read.1 in
     grind (arith, nat_tests, empty)

@@ -13,6 +13,8 @@ returns-in_default c = λ part sound same.
 
 pub returns-else-is_empty : goal.returns-else-is_empty
 returns-else-is_empty c = λ part sound same.
-    let counts : IsCounted 64 64 c.args.bytes.now c.in-Some.names c.in-Some.rest.now = rw c.in-Some.is at c.in_ok-read.ensures.some in
-    let empty : length c.in-Some.rest.now ≡ 0 = ap (λ bytes. length bytes) (hall_read c.args.bytes.now c.in-Some.names c.in-Some.rest.now part counts sound same) in
+    let counts : IsCounted 64 64 c.args.bytes.now c.in-Some.names c.in-Some.rest.now =
+    rw c.in-Some.is at c.in_ok-read.ensures.some in
+    let empty : length c.in-Some.rest.now ≡ 0 =
+    ap (λ bytes. length bytes) (hall_read c.args.bytes.now c.in-Some.names c.in-Some.rest.now part counts sound same) in
     grind (arith, nat_tests, empty)

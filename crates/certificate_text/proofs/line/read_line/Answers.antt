@@ -11,8 +11,10 @@ returns c =
     let test : c.eq.result ≡ true = (slice_eq-Decides Decides-eqb _ _ _ c.eq.ensures).1 (is ∙ sym c.as_slice.ensures) in
     cc in
     let full : c.args.line.now ≡ codes "full" → ⊥ = λ is.
-    let test : c.eq-2.result ≡ true = (slice_eq-Decides Decides-eqb _ _ _ c.eq-2.ensures).1 (is ∙ sym c.as_slice-2.ensures) in
+    let test : c.eq-2.result ≡ true =
+    (slice_eq-Decides Decides-eqb _ _ _ c.eq-2.ensures).1 (is ∙ sym c.as_slice-2.ensures) in
     cc in
     record {
-      reads = λ part sound same. no_node c.args.line.now c.in_default.ensures.none c.in_default-after.ensures.none c.in_default-after-2.ensures.none over full part same;
+      reads = λ part sound same. no_node c.args.line.now c.in_default.ensures.none c.in_default-after.ensures.none
+          c.in_default-after-2.ensures.none over full part same;
     }

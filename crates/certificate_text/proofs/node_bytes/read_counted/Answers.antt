@@ -7,5 +7,6 @@ returns-in-Err c = first_fails (row_counted c.args.limit) c.args.bytes.now c.in-
 
 pub returns-in-Err-read_numbers : goal.returns-in-Err-read_numbers
 returns-in-Err-read_numbers c =
-    then_fails (row_counted c.args.limit) c.args.bytes.now c.rest_of.result.now c.in-Ok.read.0 c.in-Ok.read.1 c.in-Err-read_numbers.fault
+    then_fails (row_counted c.args.limit) c.args.bytes.now c.rest_of.result.now c.in-Ok.read.0 c.in-Ok.read.1
+    c.in-Err-read_numbers.fault
     c.in-Ok.ensures c.rest_of.ensures c.in-Err-read_numbers.ensures

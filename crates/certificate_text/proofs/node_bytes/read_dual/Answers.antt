@@ -7,8 +7,10 @@ returns-in-Err c = first_fails row_dual c.args.bytes.now c.in-Err.fault c.in-Err
 
 pub returns-in-Ok-read_counted : goal.returns-in-Ok-read_counted
 returns-in-Ok-read_counted c =
-    then_stands row_dual c.args.bytes.now c.rest_of.result.now c.in-Ok.read.0 c.in-Ok-read_counted.mu c.in-Ok.read.1 c.in-Ok-read_counted.taken
-    c.in-Ok.ensures c.rest_of.ensures (rw (c.in-Ok-read_counted.mu-is, c.in-Ok-read_counted.taken-is) c.in-Ok-read_counted.ensures)
+    then_stands row_dual c.args.bytes.now c.rest_of.result.now c.in-Ok.read.0 c.in-Ok-read_counted.mu c.in-Ok.read.1
+    c.in-Ok-read_counted.taken
+    c.in-Ok.ensures c.rest_of.ensures
+    (rw (c.in-Ok-read_counted.mu-is, c.in-Ok-read_counted.taken-is) c.in-Ok-read_counted.ensures)
 
 pub returns-in-Err-read_counted : goal.returns-in-Err-read_counted
 returns-in-Err-read_counted c =

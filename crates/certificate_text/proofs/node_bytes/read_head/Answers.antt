@@ -9,5 +9,6 @@ returns-in-Err c =
 
 pub returns-in-Err-read_body : goal.returns-in-Err-read_body
 returns-in-Err-read_body c =
-    then_fails (row_head c.args.depth c.args.left) c.args.bytes.now c.rest_of.result.now c.in-Ok.read.0 c.in-Ok.read.1 c.in-Err-read_body.fault
+    then_fails (row_head c.args.depth c.args.left) c.args.bytes.now c.rest_of.result.now c.in-Ok.read.0 c.in-Ok.read.1
+    c.in-Err-read_body.fault
     (rw c.least_kind.ensures.value at c.in-Ok.ensures) c.rest_of.ensures c.in-Err-read_body.ensures

@@ -12,4 +12,11 @@ returns-then-not-are_names c =
 pub returns-then-names-count : goal.returns-then-names-count
 returns-then-names-count c =
     let all : list_all (λ x. nat_lt x 64) (take c.args.count c.args.bytes.now) ≡ true = search rules in
-    names_cut c.args.count c.args.bytes.now all (omega (arith, c.if-names-count.true, ap (λ xs. length xs) c.front_of-names.ensures, length-take c.args.count c.args.bytes.now))
+    names_cut c.args.count c.args.bytes.now all
+    (omega (
+      arith,
+      c.if-names-count.true,
+      ap
+          (λ xs. length xs) c.front_of-names.ensures,
+      length-take c.args.count c.args.bytes.now,
+    ))

@@ -16,4 +16,5 @@ returns-in_default-branches_behind-clause-err c =
     let before = c.args.cursor.now in
     let read = subst (λ read. ReadsNode before c.read_node.new.cursor read) c.in-Some.is c.in-Ok.ensures in
     refused_stops c.args.depth before c.read_node.new.cursor c.in-Some.head read
-    (λ can. c.in_default-branches_behind.ensures (subst (λ (b : ℕ). CanStand c.args.depth b (head_part c.in-Some.head)) (sym read.branches) can))
+    (λ can. c.in_default-branches_behind.ensures
+    (subst (λ (b : ℕ). CanStand c.args.depth b (head_part c.in-Some.head)) (sym read.branches) can))

@@ -8,4 +8,5 @@ returns-in-None c = last_is_bad c.args.cursor.now.rest.now c.in-None.ensures.0
 pub returns-in-Some : goal.returns-in-Some
 returns-in-Some c =
     if_ok c.read_line.result
-    (λ read reads. reads_node c.args.cursor.now c.next.new.self c.in-Some.line.now read c.in-Some.ensures reads) c.read_line.ensures.reads
+    (λ read reads. reads_node c.args.cursor.now c.next.new.self c.in-Some.line.now read c.in-Some.ensures reads)
+    c.read_line.ensures.reads

@@ -18,9 +18,11 @@ returns-then-digits-eq1-clause-spelled c = zero_is c.args.digits.now c.if-digits
 
 pub returns-else-digits-eq1-clause-none : goal.returns-else-digits-eq1-clause-none
 returns-else-digits-eq1-clause-none c = λ n small is.
-    c.if-digits-eq1.false (ap (λ ds. length ds) is ∙ zero_alone n (omega arith) (sym (ap (λ ds. get_or ds 0 0) is) ∙ c.if-digits-eq48.true))
+    c.if-digits-eq1.false
+    (ap (λ ds. length ds) is ∙ zero_alone n (omega arith) (sym (ap (λ ds. get_or ds 0 0) is) ∙ c.if-digits-eq48.true))
 
 pub returns-clause-spelled : goal.returns-clause-spelled
 returns-clause-spelled c =
     let some : 0 < length c.args.digits.now = grind (arith, nat_tests) in
-    rw c.value.ensures.value (numeral_is_value c.args.digits.now c.requires some c.if-digits-gt17.false c.if-digits-eq48.false)
+    rw c.value.ensures.value
+    (numeral_is_value c.args.digits.now c.requires some c.if-digits-gt17.false c.if-digits-eq48.false)

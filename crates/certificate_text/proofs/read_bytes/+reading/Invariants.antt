@@ -17,7 +17,8 @@ decreases-read_trees l = 2 * (65 - l.depth) + 1
 
 abbrev pub invariant-read_trees-loop : goal.invariant-read_trees-loop
 invariant-read_trees-loop l = record {
-  front : Stands (Several (IsFormedAt l.depth) branches l.counter l.initial.left) (λ trees. flat_map bytes_of trees) l.bytes l.trees l.at;
+  front : Stands (Several (IsFormedAt l.depth) branches l.counter l.initial.left)
+      (λ trees. flat_map bytes_of trees) l.bytes l.trees l.at;
   hangs : Hangs (IsFormedAt l.depth) bytes_of branches l.count l.initial.left l.bytes (l.count - l.counter) l.left l.at;
   spent : l.left + sum (map branches l.trees) ≡ l.initial.left;
 }

@@ -5,4 +5,5 @@ pub returns-clause-reads : goal.returns-clause-reads
 returns-clause-reads c = reads_bytes c.args.bytes.now c.read_tree.result c.read_tree.ensures.reads
 
 pub returns-clause-alone : goal.returns-clause-alone
-returns-clause-alone c = λ other reads. bytes_alone c.args.bytes.now c.read_tree.result other c.read_tree.ensures.reads reads
+returns-clause-alone c =
+    λ other reads. bytes_alone c.args.bytes.now c.read_tree.result other c.read_tree.ensures.reads reads

@@ -17,7 +17,8 @@ pub put_tree-returns : goal.put_tree-returns
 put_tree-returns t c =
     let tree = c.args.tree.now in
     on_ok c.put_trees.result
-    (λ rest. written (string_bytes c.put_trees.new.text) (string_bytes c.put_line.new.text) (string_bytes c.args.text.now) (part_line (part_of tree)) (concat (map lines_of (children_of tree))) (lines_of tree)
+    (λ rest. written (string_bytes c.put_trees.new.text) (string_bytes c.put_line.new.text)
+    (string_bytes c.args.text.now) (part_line (part_of tree)) (concat (map lines_of (children_of tree))) (lines_of tree)
     c.in_ok-put_line.ensures (lines_of-out tree) rest)
     (rw c.children.ensures.value at c.put_trees.ensures)
 

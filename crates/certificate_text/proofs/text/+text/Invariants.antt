@@ -14,4 +14,5 @@ decreases-put_trees l = 2 * sum (map nodes l.trees.now) + 1
 
 abbrev pub invariant-put_trees-loop-tree : goal.invariant-put_trees-loop-tree
 invariant-put_trees-loop-tree l =
-    string_bytes l.text ++ concat (map lines_of (drop l.tree-index l.trees)) ≡ string_bytes l.initial.text ++ concat (map lines_of l.trees)
+    string_bytes l.text ++ concat (map lines_of (drop l.tree-index l.trees)) ≡ string_bytes l.initial.text ++ concat
+    (map lines_of l.trees)

@@ -7,4 +7,5 @@ use Rattle.certificate_text.proofs.text.put_counted.Given as goal
 
 abbrev pub invariant-loop-number : goal.invariant-loop-number
 invariant-loop-number l =
-    string_bytes l.text ++ flat_map spaced (drop l.number-index l.numbers) ≡ string_bytes l.initial.text ++ flat_map spaced l.numbers
+    string_bytes l.text ++ flat_map spaced
+    (drop l.number-index l.numbers) ≡ string_bytes l.initial.text ++ flat_map spaced l.numbers

@@ -7,4 +7,5 @@ use Rattle.certificate_text.proofs.text.put_hall.Given as goal
 
 abbrev pub invariant-loop-name : goal.invariant-loop-name
 invariant-loop-name l =
-    string_bytes l.text ++ flat_map spaced (drop l.name-index l.names) ≡ string_bytes l.initial.text ++ flat_map spaced l.names
+    string_bytes l.text ++ flat_map spaced
+    (drop l.name-index l.names) ≡ string_bytes l.initial.text ++ flat_map spaced l.names
