@@ -13,6 +13,12 @@ use rand_xoshiro::Xoshiro256PlusPlus;
 /// How many steps are tried for each need.
 const STEPS: u64 = 600;
 
+/// The first step may raise the cost by this many mean costs of a need.
+const MEANS: u64 = 2;
+
+/// The mean load above a capacity counts this many times that rise.
+const EXCESS: u64 = 8;
+
 /// The seed of the draws.
 const SEED: u64 = 1;
 
@@ -66,22 +72,21 @@ impl Step {
 }
 
 impl Walker {
-    // The first step may raise the cost by twice the mean cost of a need. The mean load above a capacity counts eight
-    // times that.
+    // A walk from these choices, before its first step.
     fn new(problem: &Problem, start: &[u8]) -> Walker
         ensures none { result.best ≡ None }
     {
         let loads = Loads::of(problem, start);
         let price = loads.total(problem);
         let needs = u64::from(problem.need_count());
-        let rise = (price.cost / needs.max(1)).saturating_mul(2);
+        let rise = (price.cost / needs.max(1)).saturating_mul(MEANS);
         let mean_load = loads.carried() / needs.max(1);
         Walker {
             loads,
             price,
             steps: STEPS * needs,
             rise,
-            penalty: (rise.saturating_mul(8) / mean_load.max(1)).saturating_add(1),
+            penalty: (rise.saturating_mul(EXCESS) / mean_load.max(1)).saturating_add(1),
             best: None,
             best_cost: u64::MAX,
         }
