@@ -61,7 +61,10 @@ struct Step {
 
 impl Step {
     // The step that undoes it.
-    fn reversed(self) -> Step {
+    fn reversed(self) -> Step
+        ensures need { result.need ≡ self.need }
+        ensures back { result.back ≡ self.back }
+    {
         Step {
             need: self.need,
             from: self.to,
@@ -112,7 +115,10 @@ impl Walker {
     }
 
     // A step of a drawn need to a drawn site; None where it is there. A second drawn need steps back where it can.
-    fn drawn(&self, problem: &Problem, draws: &mut Xoshiro256PlusPlus) -> Option<Step> {
+    fn drawn(&self, problem: &Problem, draws: &mut Xoshiro256PlusPlus) -> Option<Step>
+        ensures need { IfSome result (λ step. step.need < need_count problem.now) }
+        ensures back { IfSome result (λ step. IfSome step.back (λ other. other < need_count problem.now)) }
+    {
         let need = below(draws, problem.need_count());
         let other = below(draws, problem.need_count());
         let to = drawn_site(problem, draws, need);
@@ -136,6 +142,8 @@ impl Walker {
     }
 
     fn make(&mut self, problem: &Problem, step: Step)
+        requires need { step.need < need_count problem.now }
+        requires back { IfSome step.back (λ other. other < need_count problem.now) }
         ensures stays { self.new.best ≡ self.old.best }
     {
         self.loads.put(problem, step.need, step.to);
