@@ -29,17 +29,21 @@ all_below_fails test (suc n) i below fails =
       | inr same ↦ and_right _ _ (subst (λ (k : ℕ). test k ≡ false) same fails)
     ]
 
-first_here : (test : ℕ → Bool) (n i : ℕ) → i ≡ n → first_below test i ≡ None → test i ≡ true → first_below test (suc n) ≡ Some i
+first_here : (test : ℕ → Bool) (n i : ℕ) → i ≡ n → first_below test i ≡ None → test i ≡ true
+    → first_below test (suc n) ≡ Some i
 first_here test n i same none passes =
     subst (λ (k : ℕ). first_below test (suc k) ≡ Some i) same
-    (ap (λ found. option_or found (cond (test i) (Some i) None)) none ∙ ap (λ (b : Bool). cond {A = Option ℕ} b (Some i) None) passes)
+    (ap (λ found. option_or found (cond (test i) (Some i) None)) none
+    ∙ ap (λ (b : Bool). cond {A = Option ℕ} b (Some i) None) passes)
 
 -- the first number that passes stays the first
-pub first_below_found : (test : ℕ → Bool) (n i : ℕ) → first_below test i ≡ None → test i ≡ true → i < n → first_below test n ≡ Some i
+pub first_below_found : (test : ℕ → Bool) (n i : ℕ) → first_below test i ≡ None → test i ≡ true → i < n
+    → first_below test n ≡ Some i
 first_below_found test zero i none passes below = absurd (omega arith)
 first_below_found test (suc n) i none passes below =
     elim (below_or_last i n below) [
-      | inl lower ↦ ap (λ found. option_or found (cond (test n) (Some n) None)) (first_below_found test n i none passes lower)
+      | inl lower ↦ ap (λ found. option_or found (cond (test n) (Some n) None))
+          (first_below_found test n i none passes lower)
       | inr same ↦ first_here test n i same none passes
     ]
 

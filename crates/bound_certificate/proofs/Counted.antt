@@ -16,36 +16,42 @@ pub sum-cons : (x : ℕ) (xs : List ℕ) → sum (x ∷ xs) ≡ x + sum xs
 sum-cons x xs = sum_by-cons (λ (y : ℕ). y) x xs
 
 -- a tree's list of nodes has as many as the tree
-IsCounted : Tree → Type 0
-IsCounted tree = (p : Problem) (cs : List ℕ) → length (visits p tree cs) ≡ nodes tree
+IsSized : Tree → Type 0
+IsSized tree = (p : Problem) (cs : List ℕ) → length (visits p tree cs) ≡ nodes tree
 
-counted_below : (ts : List Tree) → AllByRecursion IsCounted ts → (p : Problem) (cs : List ℕ) (n : ℕ) → length (below p cs n (map (visits p) ts)) ≡ sum (map nodes ts)
-unfolding IsCounted
-counted_below [] each p cs n = refl
-counted_below (t ∷ ts) each p cs n =
+sized_below : (ts : List Tree) → AllByRecursion IsSized ts → (p : Problem) (cs : List ℕ) (n : ℕ)
+    → length (below p cs n (map (visits p) ts)) ≡ sum (map nodes ts)
+unfolding IsSized
+sized_below [] each p cs n = refl
+sized_below (t ∷ ts) each p cs n =
     let here = each.0 p (child_choices p cs n) in
-    let rest = counted_below ts each.1 p cs (n + 1) in
+    let rest = sized_below ts each.1 p cs (n + 1) in
     simp length-append (omega (arith, here, rest, sum-cons (nodes t) (map nodes ts)))
 
-counted : (tree : Tree) → IsCounted tree
-unfolding IsCounted
-counted = tree_induction IsCounted (λ tree each p cs.
-    ap (λ vs. length vs) (visits-out p tree cs) ∙ omega (arith, counted_below (children_of tree) each p cs 0, nodes-out tree))
+sized : (tree : Tree) → IsSized tree
+unfolding IsSized
+sized = tree_induction IsSized (λ tree each p cs.
+    ap (λ vs. length vs) (visits-out p tree cs)
+    ∙ omega (arith, sized_below (children_of tree) each p cs 0, nodes-out tree))
 
 pub length-visits : (p : Problem) (tree : Tree) (cs : List ℕ) → length (visits p tree cs) ≡ nodes tree
-unfolding IsCounted
-length-visits p tree cs = counted tree p cs
+unfolding IsSized
+length-visits p tree cs = sized tree p cs
 
-pub length-below : (p : Problem) (ts : List Tree) (cs : List ℕ) (n : ℕ) → length (below p cs n (map (visits p) ts)) ≡ sum (map nodes ts)
+pub length-below : (p : Problem) (ts : List Tree) (cs : List ℕ) (n : ℕ)
+    → length (below p cs n (map (visits p) ts)) ≡ sum (map nodes ts)
 length-below p [] cs n = refl
 length-below p (t ∷ ts) cs n =
-    simp length-append (omega (arith, length-visits p t (child_choices p cs n), length-below p ts cs (n + 1), sum-cons (nodes t) (map nodes ts)))
+    simp length-append (omega
+    (arith, length-visits p t (child_choices p cs n), length-below p ts cs (n + 1), sum-cons (nodes t) (map nodes ts)))
 
 -- a formed tree has at most eight times as many nodes as Branch nodes, and one more
 IsBounded : Tree → Type 0
 IsBounded tree = (d : ℕ) → is_formed_at tree d ≡ true → nodes tree ≤ 8 * branches tree + 1
 
-bounded_below : (ts : List Tree) → AllByRecursion IsBounded ts → (d : ℕ) → list_all (λ child. child d) (map is_formed_at ts) ≡ true → sum (map nodes ts) ≤ 8 * sum (map branches ts) + length ts
+bounded_below : (ts : List Tree) → AllByRecursion IsBounded ts → (d : ℕ)
+    → list_all (λ child. child d) (map is_formed_at ts) ≡ true
+    → sum (map nodes ts) ≤ 8 * sum (map branches ts) + length ts
 unfolding IsBounded
 bounded_below [] each d formed = omega arith
 bounded_below (t ∷ ts) each d formed =

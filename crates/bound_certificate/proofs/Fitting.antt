@@ -14,7 +14,8 @@ use Rattle.bound_certificate.proofs.Known.{has-below}
 use Rattle.bound_certificate.proofs.Sums.{sum_below-le, sum_below-same, sum_below-split}
 
 -- the sites of a via are known
-pub via-known : (p : Problem) (i : ℕ) → IsWithin p.sites p.needs → i < need_count p → All (λ s. s < site_count p) (via p i)
+pub via-known : (p : Problem) (i : ℕ) → IsWithin p.sites p.needs → i < need_count p
+    → All (λ s. s < site_count p) (via p i)
 unfolding via
 via-known p i within below = (within.each i (record { load = 0; via = [] }) below).known
 
@@ -36,8 +37,10 @@ fitting p qs within fit =
     record {
       size = size;
       chosen = chosen;
-      known = λ i below. has-below (site_count p) (slice_index qs i) (via p i) (via-known p i within below) (chosen i below);
-      room = λ s below. leb-true (given p qs s) (capacity p s) (all_below-at (is_within_capacity p qs) (site_count p) s parts.1 below);
+      known = λ i below. has-below (site_count p) (slice_index qs i) (via p i) (via-known p i within below)
+          (chosen i below);
+      room = λ s below. leb-true (given p qs s) (capacity p s)
+          (all_below-at (is_within_capacity p qs) (site_count p) s parts.1 below);
     }
 
 -- a placement that makes these choices for the first needs
@@ -65,7 +68,8 @@ unfolding has
 has-from xs x n at = list_any_at (λ y. y == x) xs n 0 at.within (eq-eqb (slice_index xs n) x at.is)
 
 -- the placement goes on through one child
-pub extends_child : (p : Problem) (cs qs : List ℕ) (n : ℕ) → Extends cs qs → length cs < length qs → StandsAt (via p (length cs)) (slice_index qs (length cs)) n → Extends (child_choices p cs n) qs
+pub extends_child : (p : Problem) (cs qs : List ℕ) (n : ℕ) → Extends cs qs → length cs < length qs
+    → StandsAt (via p (length cs)) (slice_index qs (length cs)) n → Extends (child_choices p cs n) qs
 unfolding child_choices
 extends_child p cs qs n extends above at =
     let site = slice_index (via p (length cs)) n in
@@ -76,25 +80,35 @@ extends_child p cs qs n extends above at =
           let small : i < suc (length cs) = omega (arith, size) in
           elim (below_or_last i (length cs) small) [
             | inl lower ↦ extends.same i lower ∙ sym (get_or_append_left cs (site ∷ []) 0 i lower)
-            | inr last ↦ subst (λ (k : ℕ). slice_index qs k ≡ get_or (cs ++ site ∷ []) k 0) (sym last) (sym at.is ∙ sym (get_or_push cs site 0 (length cs) refl))
+            | inr last ↦ subst (λ (k : ℕ). slice_index qs k ≡ get_or (cs ++ site ∷ []) k 0) (sym last)
+                (sym at.is ∙ sym (get_or_push cs site 0 (length cs) refl))
           ];
     }
 
 -- what the choices give, open and cost, as parts of what the placement does
-pub given-extends : (p : Problem) (cs qs : List ℕ) (s : ℕ) → Extends cs qs → given p cs s ≡ sum_below (given_by p qs s) (length cs)
+pub given-extends : (p : Problem) (cs qs : List ℕ) (s : ℕ) → Extends cs qs
+    → given p cs s ≡ sum_below (given_by p qs s) (length cs)
 unfolding given given_by
 given-extends p cs qs s extends =
-    sum_below-same (given_by p cs s) (given_by p qs s) (length cs) (λ i below. ap (λ (site : ℕ). cond (site == s) (load p i) 0) (sym (extends.same i below)))
+    sum_below-same (given_by p cs s) (given_by p qs s) (length cs)
+    (λ i below. ap (λ (site : ℕ). cond (site == s) (load p i) 0) (sym (extends.same i below)))
 
-pub served-extends : (p : Problem) (cs qs : List ℕ) → Extends cs qs → served p cs ≡ sum_below (served_by p qs) (length cs)
+pub served-extends : (p : Problem) (cs qs : List ℕ) → Extends cs qs
+    → served p cs ≡ sum_below (served_by p qs) (length cs)
 unfolding served served_by
 served-extends p cs qs extends =
-    sum_below-same (served_by p cs) (served_by p qs) (length cs) (λ i below. ap (λ (site : ℕ). service p site i) (sym (extends.same i below)))
+    sum_below-same (served_by p cs) (served_by p qs) (length cs)
+    (λ i below. ap (λ (site : ℕ). service p site i) (sym (extends.same i below)))
 
 pub has-extends : (cs qs : List ℕ) (s : ℕ) → Extends cs qs → has cs s ≡ true → has qs s ≡ true
 has-extends cs qs s extends stands =
     let found = has-place cs s stands in
-    has-from qs s found.0 (record { within = omega (arith, found.1.within, extends.few); is = extends.same found.0 found.1.within ∙ found.1.is })
+    has-from qs s found.0
+    (record {
+      within = omega (arith, found.1.within, extends.few);
+      is = extends.same found.0 found.1.within
+          ∙ found.1.is;
+    })
 
 -- a longer sum is no less
 sum_below-longer : (f : ℕ → ℕ) (m n : ℕ) → m ≤ n → sum_below f m ≤ sum_below f n
@@ -114,11 +128,23 @@ served-whole p qs = refl
 
 pub given-le : (p : Problem) (cs qs : List ℕ) (s : ℕ) → Extends cs qs → given p cs s ≤ given p qs s
 given-le p cs qs s extends =
-    omega (arith, given-extends p cs qs s extends, given-whole p qs s, sum_below-longer (given_by p qs s) (length cs) (length qs) extends.few)
+    omega (
+      arith,
+      given-extends p cs qs s extends,
+      given-whole p qs s,
+      sum_below-longer (given_by p qs s) (length cs)
+          (length qs) extends.few,
+    )
 
 pub served-le : (p : Problem) (cs qs : List ℕ) → Extends cs qs → served p cs ≤ served p qs
 served-le p cs qs extends =
-    omega (arith, served-extends p cs qs extends, served-whole p qs, sum_below-longer (served_by p qs) (length cs) (length qs) extends.few)
+    omega (
+      arith,
+      served-extends p cs qs extends,
+      served-whole p qs,
+      sum_below-longer (served_by p qs) (length cs)
+          (length qs) extends.few,
+    )
 
 opened_by-le : (p : Problem) (cs qs : List ℕ) (s : ℕ) → Extends cs qs → opened_by p cs s ≤ opened_by p qs s
 unfolding opened_by
@@ -135,4 +161,9 @@ opened_by-le p cs qs s extends = elim (cases_Bool (has cs s)) [
 pub cost-le : (p : Problem) (cs qs : List ℕ) → Extends cs qs → cost p cs ≤ cost p qs
 unfolding cost opened
 cost-le p cs qs extends =
-    omega (arith, served-le p cs qs extends, sum_below-le (opened_by p cs) (opened_by p qs) (site_count p) (λ s below. opened_by-le p cs qs s extends))
+    omega (
+      arith,
+      served-le p cs qs extends,
+      sum_below-le (opened_by p cs) (opened_by p qs) (site_count p)
+          (λ s below. opened_by-le p cs qs s extends),
+    )

@@ -25,12 +25,14 @@ has-below n x xs all stands =
     let lower : slice_index_or xs found.0 found.1 < n = all found.0 found.1 found.2 in
     omega (arith, same, lower, found.3)
 
-pub chosen-below : (p : Problem) (cs : List ℕ) (n i : ℕ) → AreChoices p cs → i < length cs → All (λ y. y < n) (via p i) → slice_index cs i < n
+pub chosen-below : (p : Problem) (cs : List ℕ) (n i : ℕ) → AreChoices p cs → i < length cs → All (λ y. y < n) (via p i)
+    → slice_index cs i < n
 unfolding is_chosen
 chosen-below p cs n i are below all = has-below n (slice_index cs i) (via p i) all (are.each i below)
 
 -- one more need is completed by its first site with room
-pub completed_on : (p : Problem) (cs : List ℕ) (s n : ℕ) → first_with_room p cs ≡ Some s → completed p cs (suc n) ≡ completed p (cs ++ s ∷ []) n
+pub completed_on : (p : Problem) (cs : List ℕ) (s n : ℕ) → first_with_room p cs ≡ Some s
+    → completed p cs (suc n) ≡ completed p (cs ++ s ∷ []) n
 unfolding completed
 completed_on p cs s n found = rw found refl
 

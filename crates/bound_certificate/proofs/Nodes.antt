@@ -48,7 +48,8 @@ branch_right p cs n right =
     }
 
 -- a part that is right has no more children than the next need has sites, and none below the last need
-pub fan_right : (p : Problem) (cs : List ℕ) (part : Part) → AreChoices p cs → node_fault p cs part ≡ None → (0 < fan part → length cs < need_count p) × (fan part ≤ length (via p (length cs)))
+pub fan_right : (p : Problem) (cs : List ℕ) (part : Part) → AreChoices p cs → node_fault p cs part ≡ None
+    → (0 < fan part → length cs < need_count p) × (fan part ≤ length (via p (length cs)))
 unfolding fan
 fan_right p cs (BranchPart n) are right =
     let branching = branch_right p cs n right in
@@ -59,30 +60,47 @@ fan_right p cs (DualPart lambda mu) are right = (λ some. absurd (omega arith), 
 fan_right p cs FullPart are right = (λ some. absurd (omega arith), omega arith)
 
 -- the first fault of a tree is the root's, or else that of the nodes below it
-pub first_fault_here : (p : Problem) (tree : Tree) (cs : List ℕ) (number : ℕ) (why : TreeWhy) → node_fault p cs (part_of tree) ≡ Some why → first_fault p number (visits p tree cs) ≡ Some (record { node = number; why = why })
+pub first_fault_here : (p : Problem) (tree : Tree) (cs : List ℕ) (number : ℕ) (why : TreeWhy)
+    → node_fault p cs (part_of tree) ≡ Some why
+    → first_fault p number (visits p tree cs) ≡ Some (record { node = number; why = why })
 unfolding first_fault
 first_fault_here p tree cs number why wrong =
     ap (first_fault p number) (visits-out p tree cs)
-    ∙ ap (λ found. option_or (option_map (λ why. record { node = number; why = why }) found) (first_fault p (number + 1) (below p cs 0 (map (visits p) (children_of tree))))) wrong
+    ∙ ap (λ found. option_or (option_map (λ why. record { node = number; why = why }) found)
+    (first_fault p (number + 1) (below p cs 0 (map (visits p) (children_of tree))))) wrong
 
-pub first_fault_below : (p : Problem) (tree : Tree) (cs : List ℕ) (number : ℕ) → node_fault p cs (part_of tree) ≡ None → first_fault p number (visits p tree cs) ≡ first_fault p (number + 1) (below p cs 0 (map (visits p) (children_of tree)))
+pub first_fault_below : (p : Problem) (tree : Tree) (cs : List ℕ) (number : ℕ) → node_fault p cs (part_of tree) ≡ None
+    → first_fault p number (visits p tree cs) ≡ first_fault p (number + 1)
+    (below p cs 0 (map (visits p) (children_of tree)))
 unfolding first_fault
 first_fault_below p tree cs number right =
     ap (first_fault p number) (visits-out p tree cs)
-    ∙ ap (λ found. option_or (option_map (λ why. record { node = number; why = why }) found) (first_fault p (number + 1) (below p cs 0 (map (visits p) (children_of tree))))) right
+    ∙ ap (λ found. option_or (option_map (λ why. record { node = number; why = why }) found)
+    (first_fault p (number + 1) (below p cs 0 (map (visits p) (children_of tree))))) right
 
 -- a node that is right, and what its children add to it
-pub adds_tallied : (p : Problem) (tree : Tree) (cs : List ℕ) (number : ℕ) (own tally : Tally) → node_fault p cs (part_of tree) ≡ None → own.verdict ≡ part_verdict p cs (part_of tree) → own.nodes ≡ 1
-    → Adds p number own (below p cs 0 (map (visits p) (children_of tree))) tally → IsTallied p number (visits p tree cs) tally
+pub adds_tallied : (p : Problem) (tree : Tree) (cs : List ℕ) (number : ℕ) (own tally : Tally)
+    → node_fault p cs (part_of tree) ≡ None → own.verdict ≡ part_verdict p cs (part_of tree) → own.nodes ≡ 1
+    → Adds p number own (below p cs 0 (map (visits p) (children_of tree))) tally
+    → IsTallied p number (visits p tree cs) tally
 adds_tallied p tree cs number own tally right verdict one adds =
     let others = below p cs 0 (map (visits p) (children_of tree)) in
     let node : Visit = record { choices = cs; part = part_of tree } in
     record {
-      faultless = first_fault_below p tree cs number right ∙ sym (ap (λ (k : ℕ). first_fault p (number + k) others) one) ∙ adds.faultless;
+      faultless = first_fault_below p tree cs number right
+          ∙ sym (ap (λ (k : ℕ). first_fault p (number + k) others) one) ∙ adds.faultless;
       verdict =
           adds.verdict ∙ ap (λ own. joined own (verdict_of p others)) verdict ∙ sym (verdict_of-cons p node others)
           ∙ sym (ap (verdict_of p) (visits-out p tree cs));
-      nodes = omega (arith, adds.nodes, one, length-visits p tree cs, length-below p (children_of tree) cs 0, nodes-out tree);
+      nodes = omega (
+        arith,
+        adds.nodes,
+        one,
+        length-visits p tree cs,
+        length-below p
+            (children_of tree) cs 0,
+        nodes-out tree,
+      );
       few = adds.few;
     }
 
@@ -98,10 +116,12 @@ if_err (Err e) from holds = from e holds
 -- a number at a place of a list stands in it
 pub has-at : (xs : List ℕ) (n : ℕ) → n < length xs → has xs (slice_index xs n) ≡ true
 unfolding has
-has-at xs n within = list_any_at (λ y. y == slice_index xs n) xs n 0 within (eq-eqb (slice_index xs n) (slice_index xs n) refl)
+has-at xs n within =
+    list_any_at (λ y. y == slice_index xs n) xs n 0 within (eq-eqb (slice_index xs n) (slice_index xs n) refl)
 
 -- one more choice, which stands in the next need's via
-pub choices_push : (p : Problem) (cs : List ℕ) (s : ℕ) → AreChoices p cs → length cs < need_count p → has (via p (length cs)) s ≡ true → AreChoices p (cs ++ s ∷ [])
+pub choices_push : (p : Problem) (cs : List ℕ) (s : ℕ) → AreChoices p cs → length cs < need_count p
+    → has (via p (length cs)) s ≡ true → AreChoices p (cs ++ s ∷ [])
 unfolding is_chosen
 choices_push p cs s are above stands =
     let size : length (cs ++ s ∷ []) ≡ length cs + 1 = simp length-append in
@@ -117,9 +137,11 @@ choices_push p cs s are above stands =
           ];
     }
 
-pub choices_more : (p : Problem) (cs : List ℕ) (n : ℕ) → AreChoices p cs → length cs < need_count p → n < length (via p (length cs)) → AreChoices p (child_choices p cs n)
+pub choices_more : (p : Problem) (cs : List ℕ) (n : ℕ) → AreChoices p cs → length cs < need_count p
+    → n < length (via p (length cs)) → AreChoices p (child_choices p cs n)
 unfolding child_choices
-choices_more p cs n are above within = choices_push p cs (slice_index (via p (length cs)) n) are above (has-at (via p (length cs)) n within)
+choices_more p cs n are above within =
+    choices_push p cs (slice_index (via p (length cs)) n) are above (has-at (via p (length cs)) n within)
 
 pub length-child_choices : (p : Problem) (cs : List ℕ) (n : ℕ) → length (child_choices p cs n) ≡ length cs + 1
 unfolding child_choices
@@ -132,11 +154,14 @@ nodes_at (t ∷ ts) zero d within = omega (arith, sum-cons (nodes t) (map nodes 
 nodes_at (t ∷ ts) (suc n) d within = omega (arith, sum-cons (nodes t) (map nodes ts), nodes_at ts n d (omega arith))
 
 -- and is formed where they all are
-pub formed_child : (ts : List Tree) (n d : ℕ) (t : Tree) → list_all (λ child. child d) (map is_formed_at ts) ≡ true → n < length ts → is_formed_at (get_or ts n t) d ≡ true
+pub formed_child : (ts : List Tree) (n d : ℕ) (t : Tree) → list_all (λ child. child d) (map is_formed_at ts) ≡ true
+    → n < length ts → is_formed_at (get_or ts n t) d ≡ true
 formed_child [] n d t formed within = absurd (omega arith)
-formed_child (child ∷ ts) zero d t formed within = (and_parts (is_formed_at child d) (list_all (λ child. child d) (map is_formed_at ts)) formed).0
+formed_child (child ∷ ts) zero d t formed within =
+    (and_parts (is_formed_at child d) (list_all (λ child. child d) (map is_formed_at ts)) formed).0
 formed_child (child ∷ ts) (suc n) d t formed within =
-    formed_child ts n d t (and_parts (is_formed_at child d) (list_all (λ child. child d) (map is_formed_at ts)) formed).1 (omega arith)
+    formed_child ts n d t
+    (and_parts (is_formed_at child d) (list_all (λ child. child d) (map is_formed_at ts)) formed).1 (omega arith)
 
 -- a node is one Branch at most
 pub part_branches : (p : Problem) (cs : List ℕ) (part : Part) → (part_verdict p cs part).branches ≤ 1
@@ -157,10 +182,13 @@ none_mapped f None none = refl
 none_mapped f (Some x) none = cc
 
 -- where no node of a tree is wrong, the root is right, and so are those below it
-pub node_is_right : (p : Problem) (tree : Tree) (cs : List ℕ) (n : ℕ) → first_fault p n (visits p tree cs) ≡ None → (node_fault p cs (part_of tree) ≡ None) × (first_fault p (n + 1) (below p cs 0 (map (visits p) (children_of tree))) ≡ None)
+pub node_is_right : (p : Problem) (tree : Tree) (cs : List ℕ) (n : ℕ) → first_fault p n (visits p tree cs) ≡ None
+    → (node_fault p cs (part_of tree) ≡ None) ×
+    (first_fault p (n + 1) (below p cs 0 (map (visits p) (children_of tree))) ≡ None)
 unfolding first_fault
 node_is_right p tree cs n none =
     let made : TreeWhy → TreeFault = λ why. record { node = n; why = why } in
-    let parts = none_first (option_map made (node_fault p cs (part_of tree))) (first_fault p (n + 1) (below p cs 0 (map (visits p) (children_of tree))))
+    let parts = none_first (option_map made (node_fault p cs (part_of tree)))
+    (first_fault p (n + 1) (below p cs 0 (map (visits p) (children_of tree))))
     (sym (ap (first_fault p n) (visits-out p tree cs)) ∙ none) in
     (none_mapped made (node_fault p cs (part_of tree)) parts.0, parts.1)

@@ -15,7 +15,8 @@ use Rattle.bound_certificate.specs.Formed.{are_prices, is_formed_part}
 all_small : (xs : List ℕ) → are_prices xs ≡ true → All (λ x. x < 2 ^ 56) xs
 all_small xs are k d below = ltb-true _ _ (AllPass-from_list_all (λ x. nat_lt x (2 ^ 56)) xs are k d below)
 
-pub prices_from : (p : Problem) (cs lambda mu : List ℕ) → length cs ≤ need_count p → is_dual_shape p cs lambda mu ≡ true → are_prices lambda ≡ true → are_prices mu ≡ true → ArePrices p cs lambda mu
+pub prices_from : (p : Problem) (cs lambda mu : List ℕ) → length cs ≤ need_count p
+    → is_dual_shape p cs lambda mu ≡ true → are_prices lambda ≡ true → are_prices mu ≡ true → ArePrices p cs lambda mu
 unfolding is_dual_shape
 prices_from p cs lambda mu few shape small_lambda small_mu =
     let parts = and_parts (length lambda == need_count p - length cs) (length mu == site_count p) shape in
@@ -28,9 +29,11 @@ prices_from p cs lambda mu few shape small_lambda small_mu =
     }
 
 -- the prices of a dual within the limits
-pub are_prices-Dual : (d : ℕ) (lambda mu : List ℕ) → is_formed_part d (DualPart lambda mu) ≡ true → (are_prices lambda ≡ true) × (are_prices mu ≡ true)
+pub are_prices-Dual : (d : ℕ) (lambda mu : List ℕ) → is_formed_part d (DualPart lambda mu) ≡ true
+    → (are_prices lambda ≡ true) × (are_prices mu ≡ true)
 are_prices-Dual d lambda mu formed =
-    let outer = and_parts (nat_le (length lambda) 64 && nat_le (length mu) 32 && are_prices lambda) (are_prices mu) formed in
+    let outer = and_parts (nat_le (length lambda) 64 && nat_le (length mu) 32 && are_prices lambda)
+    (are_prices mu) formed in
     let inner = and_parts (nat_le (length lambda) 64 && nat_le (length mu) 32) (are_prices lambda) outer.0 in
     (inner.1, outer.1)
 
@@ -44,15 +47,19 @@ if_not true h = refl
 if_not false h = cc
 
 -- a dual without a fault has its shape
-dual_fault-shape : (p : Problem) (cs lambda mu : List ℕ) → dual_fault p cs lambda mu ≡ None → is_dual_shape p cs lambda mu ≡ true
+dual_fault-shape : (p : Problem) (cs lambda mu : List ℕ) → dual_fault p cs lambda mu ≡ None
+    → is_dual_shape p cs lambda mu ≡ true
 unfolding dual_fault
 dual_fault-shape p cs lambda mu right =
     let breach = option_map DualSum (dual_breach p cs lambda mu) in
-    let outer = if_none (length cs == need_count p) Depth (cond (not (is_dual_shape p cs lambda mu)) (Some DualShape) breach) right in
+    let outer = if_none (length cs == need_count p) Depth
+    (cond (not (is_dual_shape p cs lambda mu)) (Some DualShape) breach) right in
     let inner = if_none (not (is_dual_shape p cs lambda mu)) DualShape breach outer.1 in
     if_not (is_dual_shape p cs lambda mu) inner.0
 
-pub dual_prices : (p : Problem) (cs lambda mu : List ℕ) → AreChoices p cs → is_formed_part (length cs) (DualPart lambda mu) ≡ true → node_fault p cs (DualPart lambda mu) ≡ None → ArePrices p cs lambda mu
+pub dual_prices : (p : Problem) (cs lambda mu : List ℕ) → AreChoices p cs
+    → is_formed_part (length cs) (DualPart lambda mu) ≡ true → node_fault p cs (DualPart lambda mu) ≡ None
+    → ArePrices p cs lambda mu
 unfolding node_fault
 dual_prices p cs lambda mu choices formed right =
     let prices = are_prices-Dual (length cs) lambda mu formed in

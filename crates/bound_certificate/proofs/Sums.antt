@@ -66,7 +66,8 @@ sum_below-pick f x (suc m) below = elim (below_or_last x m below) [
 ]
 
 -- a sum over i of a term at c i is one over the values of c, each with the terms that have it
-pub sum_below-swap : (f : ℕ → ℕ → ℕ) (c : ℕ → ℕ) (m n : ℕ) → ((i : ℕ) → i < n → c i < m) → sum_below (λ i. f i (c i)) n ≡ sum_below (λ s. sum_below (λ i. cond (c i == s) (f i s) 0) n) m
+pub sum_below-swap : (f : ℕ → ℕ → ℕ) (c : ℕ → ℕ) (m n : ℕ) → ((i : ℕ) → i < n → c i < m)
+    → sum_below (λ i. f i (c i)) n ≡ sum_below (λ s. sum_below (λ i. cond (c i == s) (f i s) 0) n) m
 sum_below-swap f c m zero known = sym (sum_below-zero (λ s. 0) m (λ i below. refl))
 sum_below-swap f c m (suc n) known =
     let before = sum_below-swap f c m n (λ i below. known i (omega arith)) in
@@ -83,4 +84,5 @@ sum_below-first f (suc n) = omega (arith, sum_below-first f n)
 pub sum-index : (xs : List ℕ) → sum xs ≡ sum_below (λ i. slice_index xs i) (length xs)
 sum-index [] = refl
 sum-index (x ∷ xs) =
-    sum-cons x xs ∙ ap (λ (rest : ℕ). x + rest) (sum-index xs) ∙ sym (sum_below-first (λ i. slice_index (x ∷ xs) i) (length xs))
+    sum-cons x xs ∙ ap (λ (rest : ℕ). x + rest) (sum-index xs)
+    ∙ sym (sum_below-first (λ i. slice_index (x ∷ xs) i) (length xs))

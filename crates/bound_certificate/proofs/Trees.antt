@@ -1,15 +1,13 @@
 -- Trees, layer by layer.
-use Rattle.std.proofs.Common.{◌≡◌, ℕ, ◌+◌, Bool, true, ◌&&◌, cond, List, [], ◌∷◌, ◌++◌, length, map, refl, sym, ◌∙◌, ap, subst, rules}
+use Rattle.std.proofs.Common.{◌≡◌, ℕ, ◌+◌, Bool, true, ◌&&◌, cond, List, [], ◌∷◌, length, map, refl, sym, ◌∙◌, ap, subst, rules}
 use Rattle.std.specs.Prelude.{sum}
-use Rattle.std.specs.List.{concat, AllByRecursion, list_all}
+use Rattle.std.specs.List.{AllByRecursion, list_all}
 use Rattle.std.proofs.lemmas.Bool.{and_parts}
 use Rattle.std.proofs.lemmas.List.{length-map}
 use Rattle.bound_certificate.specs.Problem.{Problem}
 use Rattle.bound_certificate.specs.Node.{Part, BranchPart, OverPart, HallPart, DualPart, FullPart}
 use Rattle.bound_certificate.specs.Tree.{Visit, part_step, children_step, is_branch, part_of, children_of, below, visits_step, visits}
 use Rattle.bound_certificate.specs.Formed.{branches_step, branches, nodes_step, nodes, is_formed_part, formed_step, is_formed_at}
-use Rattle.bound_certificate.specs.Text.{part_line, lines_step, lines_of}
-use Rattle.bound_certificate.specs.Bytes.{part_bytes, bytes_step, bytes_of}
 use Rattle.bound_certificate.specs.declared.tree.Tree.{Tree}
 use Rattle.bound_certificate.specs.declared.tree.Tree.TheOpen.{Tree-F}
 use Rattle.bound_certificate.specs.declared.tree.Tree.TheFolds.{fold-Tree, map-Tree, fold_out-Tree, ind-Tree}
@@ -55,7 +53,8 @@ part_step-map f (Tree-F.Hall names) = refl
 part_step-map f (Tree-F.Dual lambda mu) = refl
 part_step-map f Tree-F.Full = refl
 
-pub children_step-map : {X Y : Type 0} (f : X → Y) (layer : Tree-F X) → children_step (map-Tree X Y f layer) ≡ map f (children_step layer)
+pub children_step-map : {X Y : Type 0} (f : X → Y) (layer : Tree-F X)
+    → children_step (map-Tree X Y f layer) ≡ map f (children_step layer)
 children_step-map f (Tree-F.Branch xs) = refl
 children_step-map f Tree-F.Over = refl
 children_step-map f (Tree-F.Hall names) = refl
@@ -63,15 +62,19 @@ children_step-map f (Tree-F.Dual lambda mu) = refl
 children_step-map f Tree-F.Full = refl
 
 -- the nodes of a tree: the node itself, and those below it
-pub visits-out : (p : Problem) (tree : Tree) (cs : List ℕ) → visits p tree cs ≡ record { choices = cs; part = part_of tree } ∷ below p cs 0 (map (visits p) (children_of tree))
+pub visits-out : (p : Problem) (tree : Tree) (cs : List ℕ)
+    → visits p tree cs ≡ record { choices = cs; part = part_of tree } ∷ below p cs 0 (map (visits p) (children_of tree))
 unfolding visits
 visits-out p tree cs =
     let fold = fold-Tree (List ℕ → List Visit) (visits_step p) in
     let layer = map-Tree Tree (List ℕ → List Visit) fold (out-Tree tree) in
-    let opened : visits p tree cs ≡ visits_step p layer cs = ap (λ (f : List ℕ → List Visit). f cs) (fold_out-Tree (List ℕ → List Visit) (visits_step p) tree) in
+    let opened : visits p tree cs ≡ visits_step p layer cs =
+    ap (λ (f : List ℕ → List Visit). f cs) (fold_out-Tree (List ℕ → List Visit) (visits_step p) tree) in
     opened
-    ∙ ap (λ (part : Part). record { choices = cs; part = part } ∷ below p cs 0 (children_step layer)) (part_step-map fold (out-Tree tree))
-    ∙ ap (λ children. record { choices = cs; part = part_of tree } ∷ below p cs 0 children) (children_step-map fold (out-Tree tree))
+    ∙ ap (λ (part : Part). record { choices = cs; part = part } ∷ below p cs 0 (children_step layer))
+    (part_step-map fold (out-Tree tree))
+    ∙ ap (λ children. record { choices = cs; part = part_of tree } ∷ below p cs 0 children)
+    (children_step-map fold (out-Tree tree))
 
 -- the same for the other folds
 pub nodes-out : (tree : Tree) → nodes tree ≡ 1 + sum (map nodes (children_of tree))
@@ -80,29 +83,40 @@ nodes-out tree =
     let fold = fold-Tree ℕ nodes_step in
     fold_out-Tree ℕ nodes_step tree ∙ ap (λ (counts : List ℕ). 1 + sum counts) (children_step-map fold (out-Tree tree))
 
-pub branches-out : (tree : Tree) → branches tree ≡ cond {A = ℕ} (is_branch (part_of tree)) 1 0 + sum (map branches (children_of tree))
+pub branches-out : (tree : Tree)
+    → branches tree ≡ cond {A = ℕ} (is_branch (part_of tree)) 1 0 + sum (map branches (children_of tree))
 unfolding branches
 branches-out tree =
     let fold = fold-Tree ℕ branches_step in
     let layer = map-Tree Tree ℕ fold (out-Tree tree) in
     fold_out-Tree ℕ branches_step tree
-    ∙ ap (λ (part : Part). cond {A = ℕ} (is_branch part) 1 0 + sum (children_step layer)) (part_step-map fold (out-Tree tree))
-    ∙ ap (λ (counts : List ℕ). cond {A = ℕ} (is_branch (part_of tree)) 1 0 + sum counts) (children_step-map fold (out-Tree tree))
+    ∙ ap (λ (part : Part). cond {A = ℕ} (is_branch part) 1 0 + sum (children_step layer))
+    (part_step-map fold (out-Tree tree))
+    ∙ ap (λ (counts : List ℕ). cond {A = ℕ} (is_branch (part_of tree)) 1 0 + sum counts)
+    (children_step-map fold (out-Tree tree))
 
-pub is_formed_at-out : (tree : Tree) (d : ℕ) → is_formed_at tree d ≡ (is_formed_part d (part_of tree) && list_all (λ child. child (d + 1)) (map is_formed_at (children_of tree)))
+pub is_formed_at-out : (tree : Tree) (d : ℕ)
+    → is_formed_at tree d ≡
+    (is_formed_part d (part_of tree) && list_all (λ child. child (d + 1)) (map is_formed_at (children_of tree)))
 unfolding is_formed_at
 is_formed_at-out tree d =
     let fold = fold-Tree (ℕ → Bool) formed_step in
     let layer = map-Tree Tree (ℕ → Bool) fold (out-Tree tree) in
-    let opened : is_formed_at tree d ≡ formed_step layer d = ap (λ (f : ℕ → Bool). f d) (fold_out-Tree (ℕ → Bool) formed_step tree) in
+    let opened : is_formed_at tree d ≡ formed_step layer d =
+    ap (λ (f : ℕ → Bool). f d) (fold_out-Tree (ℕ → Bool) formed_step tree) in
     opened
-    ∙ ap (λ (part : Part). is_formed_part d part && list_all (λ child. child (d + 1)) (children_step layer)) (part_step-map fold (out-Tree tree))
-    ∙ ap (λ (children : List (ℕ → Bool)). is_formed_part d (part_of tree) && list_all (λ child. child (d + 1)) children) (children_step-map fold (out-Tree tree))
+    ∙ ap (λ (part : Part). is_formed_part d part && list_all (λ child. child (d + 1)) (children_step layer))
+    (part_step-map fold (out-Tree tree))
+    ∙ ap (λ (children : List (ℕ → Bool)). is_formed_part d (part_of tree) && list_all
+    (λ child. child (d + 1)) children) (children_step-map fold (out-Tree tree))
 
 -- what a formed tree says of its node and of its children
-pub is_formed_at-parts : (tree : Tree) (d : ℕ) → is_formed_at tree d ≡ true → (is_formed_part d (part_of tree) ≡ true) × (list_all (λ child. child (d + 1)) (map is_formed_at (children_of tree)) ≡ true)
+pub is_formed_at-parts : (tree : Tree) (d : ℕ) → is_formed_at tree d ≡ true
+    → (is_formed_part d (part_of tree) ≡ true) ×
+    (list_all (λ child. child (d + 1)) (map is_formed_at (children_of tree)) ≡ true)
 is_formed_at-parts tree d formed =
-    and_parts (is_formed_part d (part_of tree)) (list_all (λ child. child (d + 1)) (map is_formed_at (children_of tree))) (sym (is_formed_at-out tree d) ∙ formed)
+    and_parts (is_formed_part d (part_of tree))
+    (list_all (λ child. child (d + 1)) (map is_formed_at (children_of tree))) (sym (is_formed_at-out tree d) ∙ formed)
 
 -- how many children a part says that it has
 unfoldable pub fan : Part → ℕ
@@ -131,27 +145,9 @@ all_such P (e ∷ es) = (e.1, all_such P es)
 pub children_of-roll : (layer : Tree-F Tree) → children_of (roll-Tree layer) ≡ children_step layer
 children_of-roll layer = search (rules, the_lemmas)
 
-pub tree_induction : (P : Tree → Type 0) → ((tree : Tree) → AllByRecursion P (children_of tree) → P tree) → (tree : Tree) → P tree
+pub tree_induction : (P : Tree → Type 0) → ((tree : Tree) → AllByRecursion P (children_of tree) → P tree)
+    → (tree : Tree) → P tree
 tree_induction P step = ind-Tree P (λ x y is.
     let children : map (λ e. e.0) (children_step y) ≡ children_of (roll-Tree x) =
     sym (children_step-map (λ e. e.0) y) ∙ ap children_step is ∙ sym (children_of-roll x) in
     step (roll-Tree x) (subst (λ ts. AllByRecursion P ts) children (all_such P (children_step y))))
-
--- the text and the bytes of a tree, root first
-pub lines_of-out : (tree : Tree) → lines_of tree ≡ part_line (part_of tree) ++ concat (map lines_of (children_of tree))
-unfolding lines_of
-lines_of-out tree =
-    let fold = fold-Tree (List ℕ) lines_step in
-    let layer = map-Tree Tree (List ℕ) fold (out-Tree tree) in
-    fold_out-Tree (List ℕ) lines_step tree
-    ∙ ap (λ (part : Part). part_line part ++ concat (children_step layer)) (part_step-map fold (out-Tree tree))
-    ∙ ap (λ (parts : List (List ℕ)). part_line (part_of tree) ++ concat parts) (children_step-map fold (out-Tree tree))
-
-pub bytes_of-out : (tree : Tree) → bytes_of tree ≡ part_bytes (part_of tree) ++ concat (map bytes_of (children_of tree))
-unfolding bytes_of
-bytes_of-out tree =
-    let fold = fold-Tree (List ℕ) bytes_step in
-    let layer = map-Tree Tree (List ℕ) fold (out-Tree tree) in
-    fold_out-Tree (List ℕ) bytes_step tree
-    ∙ ap (λ (part : Part). part_bytes part ++ concat (children_step layer)) (part_step-map fold (out-Tree tree))
-    ∙ ap (λ (parts : List (List ℕ)). part_bytes (part_of tree) ++ concat parts) (children_step-map fold (out-Tree tree))

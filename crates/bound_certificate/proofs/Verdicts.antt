@@ -31,7 +31,8 @@ lesser-None None = refl
 lesser-None (Some x) = refl
 
 -- the first fault of two lists of nodes is that of the first list, or else that of the second
-pub first_fault-append : (p : Problem) (n : ℕ) (vs ws : List Visit) → first_fault p n (vs ++ ws) ≡ option_or (first_fault p n vs) (first_fault p (n + length vs) ws)
+pub first_fault-append : (p : Problem) (n : ℕ) (vs ws : List Visit)
+    → first_fault p n (vs ++ ws) ≡ option_or (first_fault p n vs) (first_fault p (n + length vs) ws)
 unfolding first_fault
 first_fault-append p n [] ws = ap (λ (k : ℕ). first_fault p k ws) (omega arith)
 first_fault-append p n (v ∷ vs) ws =
@@ -41,11 +42,13 @@ first_fault-append p n (v ∷ vs) ws =
     ∙ option_or-assoc here (first_fault p (n + 1) vs) (first_fault p ((n + 1) + length vs) ws)
     ∙ ap (λ (k : ℕ). option_or (option_or here (first_fault p (n + 1) vs)) (first_fault p k ws)) number
 
-pub bound_of-append : (p : Problem) (vs ws : List Visit) → bound_of p (vs ++ ws) ≡ lesser (bound_of p vs) (bound_of p ws)
+pub bound_of-append : (p : Problem) (vs ws : List Visit)
+    → bound_of p (vs ++ ws) ≡ lesser (bound_of p vs) (bound_of p ws)
 unfolding bound_of
 bound_of-append p [] ws = refl
 bound_of-append p (v ∷ vs) ws =
-    ap (lesser (part_value p v.choices v.part)) (bound_of-append p vs ws) ∙ lesser-assoc (part_value p v.choices v.part) (bound_of p vs) (bound_of p ws)
+    ap (lesser (part_value p v.choices v.part)) (bound_of-append p vs ws)
+    ∙ lesser-assoc (part_value p v.choices v.part) (bound_of p vs) (bound_of p ws)
 
 pub branches_of-append : (vs ws : List Visit) → branches_of (vs ++ ws) ≡ branches_of vs + branches_of ws
 unfolding branches_of
@@ -64,14 +67,16 @@ same_verdict : {a b : Option ℤ} {m n : ℕ} {f g : Bool} → a ≡ b → m ≡
 same_verdict {a} {b} {m} {n} {f} {g} bounds counts fulls =
     ap (λ (x : Option ℤ). mk x m f) bounds ∙ ap (λ (k : ℕ). mk b k f) counts ∙ ap (λ (h : Bool). mk b n h) fulls
 
-pub verdict_of-append : (p : Problem) (vs ws : List Visit) → verdict_of p (vs ++ ws) ≡ joined (verdict_of p vs) (verdict_of p ws)
+pub verdict_of-append : (p : Problem) (vs ws : List Visit)
+    → verdict_of p (vs ++ ws) ≡ joined (verdict_of p vs) (verdict_of p ws)
 unfolding verdict_of joined
 verdict_of-append p vs ws = same_verdict (bound_of-append p vs ws) (branches_of-append vs ws) (full_in-append vs ws)
 
 pub joined-assoc : (a b c : Verdict) → joined a (joined b c) ≡ joined (joined a b) c
 unfolding joined
 joined-assoc a b c =
-    same_verdict (lesser-assoc a.bound b.bound c.bound) (sym (add_assoc a.branches b.branches c.branches)) (sym (or_assoc a.full b.full c.full))
+    same_verdict (lesser-assoc a.bound b.bound c.bound) (sym (add_assoc a.branches b.branches c.branches))
+    (sym (or_assoc a.full b.full c.full))
 
 -- no nodes add nothing
 pub joined-none : (p : Problem) (a : Verdict) → joined a (verdict_of p []) ≡ a
@@ -79,6 +84,7 @@ unfolding joined verdict_of bound_of branches_of full_in
 joined-none p a = same_verdict (lesser-None a.bound) (omega arith) (or-false a.full)
 
 -- a node, and those after it
-pub verdict_of-cons : (p : Problem) (v : Visit) (vs : List Visit) → verdict_of p (v ∷ vs) ≡ joined (part_verdict p v.choices v.part) (verdict_of p vs)
+pub verdict_of-cons : (p : Problem) (v : Visit) (vs : List Visit)
+    → verdict_of p (v ∷ vs) ≡ joined (part_verdict p v.choices v.part) (verdict_of p vs)
 unfolding verdict_of joined part_verdict bound_of branches_of full_in
 verdict_of-cons p v vs = refl

@@ -12,16 +12,3 @@ pub mod Sums
 pub mod Tree
 pub mod Meaning
 pub mod Whole
-pub mod Bytes
-pub mod Text
-pub mod ReadBytes
-pub mod ReadText
-pub mod NodeHead
-pub mod Parts
-pub mod Numeral
-pub mod Reading
-pub mod ReadNode
-pub mod ReadTree
-pub mod Cursor
-pub mod NodeLines
-pub mod TextEnds

@@ -8,6 +8,7 @@ use Rattle.bound_certificate.specs.Placement.{cost, fits, completed, first_fit}
 use Rattle.bound_certificate.specs.Node.{Part, BranchPart, OverPart, HallPart, DualPart, FullPart, is_over, dual_value}
 use Rattle.bound_certificate.specs.Tree.{Visit, visits, first_fault, bound_of, branches_of, verdict_of}
 use Rattle.bound_certificate.specs.Floor.{floor}
+use Rattle.bound_certificate.specs.Formed.{is_formed}
 use Rattle.bound_certificate.specs.declared.tree.Tree.{Tree}
 use Rattle.bound_certificate.specs.declared.verdict.Verdict.{Verdict}
 use Rattle.bound_certificate.specs.declared.verdict.TreeFault.{TreeFault}
@@ -96,6 +97,10 @@ judgement p n outcome =
     let vs = visits p (tree_of outcome) [] in
     unless_faulty (first_fault p 0 vs) (nat_lt n (branches_of vs)) (judged p n vs outcome)
 
--- whether an outcome is right
+-- whether its judgement has no fault
+unfoldable pub is_faultless : Problem → ℕ → Outcome → Bool
+is_faultless p n outcome = is_ok (judgement p n outcome)
+
+-- whether an outcome is right: its tree is within its limits, and its judgement has no fault
 unfoldable pub is_right : Problem → ℕ → Outcome → Bool
-is_right p n outcome = is_ok (judgement p n outcome)
+is_right p n outcome = is_formed (tree_of outcome) && is_faultless p n outcome

@@ -59,7 +59,8 @@ visits p = fold-Tree (List ℕ → List Visit) (visits_step p)
 unfoldable pub first_fault : Problem → ℕ → List Visit → Option TreeFault
 first_fault p n [] = None
 first_fault p n (v ∷ vs) =
-    option_or (option_map (λ why. record { node = n; why = why }) (node_fault p v.choices v.part)) (first_fault p (n + 1) vs)
+    option_or (option_map (λ why. record { node = n; why = why }) (node_fault p v.choices v.part))
+    (first_fault p (n + 1) vs)
 
 -- the value of a leaf that has one
 abbrev pub part_value : Problem → List ℕ → Part → Option ℤ

@@ -14,7 +14,7 @@ use crate::dual::dual_value;
 use crate::node::node_fault;
 use crate::numbers::Numbers;
 use crate::tally::Tally;
-use crate::{Problem, Tree, TreeFault, Verdict};
+use crate::{Problem, Tree, TreeFault, Verdict, children};
 
 /// What a tree says, or its first wrong node in preorder with the first reason. Where it says a bound, every
 /// placement that fits costs at least that; where the bound is None, none fits. Takes no memory.
@@ -91,16 +91,6 @@ fn check_children(
         }
     }
     Ok(tally)
-}
-
-/// The children of a node: none where it is no Branch.
-pub fn children(tree: &Tree) -> &[Tree]
-    ensures value { result.now ≡ children_of tree.now }
-{
-    match tree {
-        Tree::Branch(children) => children.as_slice(),
-        _ => &[],
-    }
 }
 
 // What a node says by itself.

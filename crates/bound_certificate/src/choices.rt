@@ -8,7 +8,7 @@ use crate::numbers::has;
 
 /// The load that the choices give to a site.
 #[tactic(auto, unfolding(crate::specs::Placement::given))]
-pub fn given(problem: &Problem, choices: &[u8], site: u8) -> u64
+pub(crate) fn given(problem: &Problem, choices: &[u8], site: u8) -> u64
     requires { length choices.now ≤ need_count problem.now }
     ensures value { result ≡ given problem.now choices.now site }
     ensures bound { result ≤ 65535 * length choices.now }
@@ -40,7 +40,7 @@ fn given_by(problem: &Problem, choices: &[u8], site: u8, need: usize) -> u64
 
 /// The cost of opening the chosen sites, each once.
 #[tactic(auto, unfolding(crate::specs::Placement::opened))]
-pub fn opened(problem: &Problem, choices: &[u8]) -> u64
+pub(crate) fn opened(problem: &Problem, choices: &[u8]) -> u64
     ensures value { result ≡ opened problem.now choices.now }
     ensures bound { result ≤ 2 ^ 37 }
     ensures few { need_count problem.now ≤ 64 }
@@ -68,7 +68,7 @@ fn opened_by(problem: &Problem, choices: &[u8], site: u8) -> u64
 
 /// The cost of serving the needs that have a choice, each from its site.
 #[tactic(auto, unfolding(crate::specs::Placement::served))]
-pub fn served(problem: &Problem, choices: &[u8]) -> u64
+pub(crate) fn served(problem: &Problem, choices: &[u8]) -> u64
     requires { AreChoices problem.now choices.now }
     ensures value { result ≡ served problem.now choices.now }
     ensures bound { result ≤ 4294836225 * length choices.now }
@@ -89,6 +89,7 @@ fn served_by(problem: &Problem, choices: &[u8], need: usize) -> u64
     ensures bound { result ≤ 4294836225 }
     ensures few { need_count problem.now ≤ 64 }
 {
+    // Its sites are numbers of sites, and so is the choice.
     let _via = problem.via(need);
     problem.service(usize::from(choices[need]), need)
 }
@@ -106,7 +107,7 @@ pub fn cost_of(problem: &Problem, choices: &[u8]) -> u64
 
 /// Whether a site's loads are within its capacity.
 #[tactic(auto, unfolding(crate::specs::Placement::is_within_capacity))]
-pub fn is_within_capacity(problem: &Problem, choices: &[u8], site: u8) -> bool
+pub(crate) fn is_within_capacity(problem: &Problem, choices: &[u8], site: u8) -> bool
     requires few { length choices.now ≤ need_count problem.now }
     requires known { site < site_count problem.now }
     ensures value { result ≡ is_within_capacity problem.now choices.now site }

@@ -1,6 +1,7 @@
 //! Choices completed to a placement, each need at the first site with room left.
 ghost use Rattle.std.specs.Prelude.{◌≡◌, ◌≤◌, ◌<◌, ◌-◌, length, IfSome, IsTrue};
 ghost use Rattle.bound_certificate.specs.Problem.{site_count, need_count, via};
+ghost use Rattle.bound_certificate.specs.Limits.{IsWithin};
 ghost use Rattle.bound_certificate.specs.Placement.{AreChoices, first_with_room, has_room, completed};
 ghost use Rattle.bound_certificate.specs.Sums.{has};
 
@@ -15,6 +16,7 @@ pub fn complete(problem: &Problem, choices: &Numbers) -> Option<Numbers>
     requires { AreChoices problem.now choices.now }
     ensures value { result ≡ completed problem.now choices.now (need_count problem.now - length choices.now) }
     ensures choices { IfSome result (λ completed. AreChoices problem.now completed) }
+    ensures within { IsWithin problem.now.sites problem.now.needs }
 {
     let mut completed = choices.copied();
     for _ in choices.len()..usize::from(problem.need_count()) {

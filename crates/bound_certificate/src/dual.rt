@@ -13,7 +13,7 @@ use crate::numbers::has;
 
 /// Whether there is one lambda for each need without a choice, and one mu for each site.
 #[tactic(auto, unfolding(crate::specs::Node::is_dual_shape))]
-pub fn is_dual_shape(problem: &Problem, choices: &[u8], lambda: &[u64], mu: &[u64]) -> bool
+pub(crate) fn is_dual_shape(problem: &Problem, choices: &[u8], lambda: &[u64], mu: &[u64]) -> bool
     requires { length choices.now ≤ need_count problem.now }
     ensures value { result ≡ is_dual_shape problem.now choices.now lambda.now mu.now }
 {

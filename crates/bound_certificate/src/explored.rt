@@ -27,7 +27,7 @@ pub struct Rule {
 
 /// Whether a node's completion is no better than the best cost, and its floor is what it has to be.
 #[tactic(auto, unfolding(crate::specs::Outcome::is_explored))]
-pub fn is_explored(problem: &Problem, choices: &Numbers, tree: &Tree, rule: Rule) -> bool
+pub(crate) fn is_explored(problem: &Problem, choices: &Numbers, tree: &Tree, rule: Rule) -> bool
     requires choices { AreChoices problem.now choices.now }
     requires formed { IsTrue (is_formed_part (length choices.now) (part_of tree.now)) }
     requires right { node_fault problem.now choices.now (part_of tree.now) ≡ None }

@@ -11,7 +11,7 @@ use crate::dual::dual_limit;
 /// The floor of a node: the cost of the choices, and for each later need the least that it costs at a site of
 /// its via. The first of them may also have to open that site.
 #[tactic(auto, unfolding(crate::specs::Floor::floor))]
-pub fn floor_of(problem: &Problem, choices: &[u8]) -> u64
+pub(crate) fn floor_of(problem: &Problem, choices: &[u8]) -> u64
     requires { AreChoices problem.now choices.now }
     ensures value { result ≡ floor problem.now choices.now }
 {

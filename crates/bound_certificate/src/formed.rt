@@ -5,8 +5,7 @@ ghost use Rattle.bound_certificate.specs.Node.{Part};
 ghost use Rattle.bound_certificate.specs.Tree.{part_of, is_branch};
 ghost use Rattle.bound_certificate.specs.Formed.{branches, are_prices, is_formed_part, is_formed_at, is_formed};
 
-use crate::Tree;
-use crate::checker::children;
+use crate::{Tree, children};
 
 /// Whether a tree is within the limits: up to 4,096 Branch nodes of 1 to 8 children at depths below 64, Halls of
 /// up to 64 needs, each below 64, Duals of up to 64 lambdas and 32 mus, all below 2^56. Takes no memory.
@@ -64,8 +63,8 @@ fn is_formed_hall(names: &[u8]) -> bool
     names.len() <= 64 && are_names(names)
 }
 
-// Whether all of these numbers are below 64.
-pub(crate) fn are_names(names: &[u8]) -> bool
+/// Whether all of these numbers are below 64, as those of a Hall have to be.
+pub fn are_names(names: &[u8]) -> bool
     ensures { result ≡ list_all (λ x. nat_lt x 64) names.now }
 {
     names.iter().all(|name| *name < 64)

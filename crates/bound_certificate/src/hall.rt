@@ -1,6 +1,7 @@
 //! Needs that are more than the sites of their vias have left.
 ghost use Rattle.std.specs.Prelude.{◌≡◌, ◌≤◌, ◌<◌, ◌-◌, ◌*◌, ◌^◌, ◌==◌, ℕ, length, All, slice_index};
 ghost use Rattle.std.specs.Bool.{OnTrue};
+ghost use Rattle.bound_certificate.specs.Limits.{IsWithin};
 ghost use Rattle.bound_certificate.specs.Problem.{site_count, need_count};
 ghost use Rattle.bound_certificate.specs.Node.{later, is_reached, named_by, named_load, reached_capacity_by, reached_capacity, reached_given_by, reached_given, is_crowded, is_next_name, is_hall_set};
 
@@ -25,6 +26,7 @@ pub fn later(problem: &Problem, depth: u8) -> Numbers
     requires { depth ≤ need_count problem.now }
     ensures value { result ≡ later problem.now depth }
     ensures known { All (λ need. need < need_count problem.now) result }
+    ensures within { IsWithin problem.now.sites problem.now.needs }
 {
     let mut needs = Numbers::new();
     for need in depth..problem.need_count() {

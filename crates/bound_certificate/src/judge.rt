@@ -1,20 +1,20 @@
 //! The judgement of an outcome: its tree, node by node once more, and what it says.
-ghost use Rattle.std.specs.Prelude.{◌≡◌, ◌≤◌, ◌<◌, ◌+◌, ◌^◌, ℕ, List, [], None, Some, length, map, IsTrue, IfOk, IfErr, IsOk, pos, is_some, Ok, Err, ◌||◌, ◌&&◌, ◌==◌, if◌then◌else◌};
+ghost use Rattle.std.specs.Prelude.{◌≡◌, ◌≤◌, ◌<◌, ◌+◌, ◌^◌, ℕ, List, [], None, Some, length, map, IsTrue, IfOk, IfErr, pos, is_some, is_ok, Ok, Err, ◌||◌, ◌&&◌, ◌==◌, if◌then◌else◌};
 ghost use Rattle.std.specs.List.{list_all};
 ghost use Rattle.bound_certificate.specs.Problem.{need_count, via};
 ghost use Rattle.bound_certificate.specs.Placement.{AreChoices, cost, fits};
 ghost use Rattle.bound_certificate.specs.Tree.{children_of, visits, below, first_fault, bound_of, branches_of, verdict_of};
 ghost use Rattle.bound_certificate.specs.Formed.{is_formed, is_formed_at};
 ghost use Rattle.bound_certificate.specs.Meaning.{Shows};
-ghost use Rattle.bound_certificate.specs.Outcome.{are_explored, first_fit_cost, is_bound, is_best, is_spent, tree_of, judged, judgement};
+ghost use Rattle.bound_certificate.specs.Outcome.{are_explored, first_fit_cost, is_bound, is_best, is_spent, tree_of, judged, judgement, is_right};
 
-use crate::checker::{check, children};
+use crate::checker::check;
 use crate::choices::cost_of;
 use crate::completion::complete;
 use crate::explored::{Rule, is_explored};
 use crate::numbers::Numbers;
 use crate::placement::{Placement, fits};
-use crate::{Outcome, OutcomeFault, Problem, Tree, Verdict};
+use crate::{Outcome, OutcomeFault, Problem, Tree, Verdict, children};
 
 /// What an outcome's tree says where the outcome of a search with this many Branch nodes is right, else the
 /// first fault. Takes no memory. The tree is within its limits, as for `check`.
@@ -30,12 +30,22 @@ use crate::{Outcome, OutcomeFault, Problem, Tree, Verdict};
 ///   below first fit's cost if there is one, and the bound is the placement's cost or all Branch nodes were
 ///   spent. Spent is right where there is a bound, no node has a completion, each Dual leaf's value is at least
 ///   its floor, and all Branch nodes were spent.
-#[tactic(auto, unfolding(crate::specs::Outcome::judgement, crate::specs::Tree::verdict_of))]
 pub fn check_outcome(
     problem: &Problem,
     nodes: u32,
     outcome: &Outcome,
 ) -> Result<Verdict, OutcomeFault>
+    requires { IsTrue (is_formed (tree_of outcome.now)) }
+    ensures judged { result ≡ judgement problem.now nodes outcome.now }
+    ensures right { is_ok result ≡ is_right problem.now nodes outcome.now }
+    ensures shows { IfOk result (Shows problem.now nodes outcome.now) }
+{
+    judgement(problem, nodes, outcome)
+}
+
+// The judgement of an outcome.
+#[tactic(auto, unfolding(crate::specs::Outcome::judgement, crate::specs::Tree::verdict_of))]
+fn judgement(problem: &Problem, nodes: u32, outcome: &Outcome) -> Result<Verdict, OutcomeFault>
     requires { IsTrue (is_formed (tree_of outcome.now)) }
     ensures judged { result ≡ judgement problem.now nodes outcome.now }
     ensures shows { IfOk result (Shows problem.now nodes outcome.now) }
@@ -101,7 +111,8 @@ fn is_best(
     requires formed { IsTrue (is_formed tree.now) }
     requires right { first_fault problem.now 0 (visits problem.now tree.now []) ≡ None }
     requires verdict { verdict ≡ verdict_of problem.now (visits problem.now tree.now []) }
-    ensures { result ≡ is_best problem.now nodes (visits problem.now tree.now []) (cost problem.now placement.now.sites) }
+    ensures { result ≡ is_best problem.now nodes (visits problem.now tree.now [])
+        (cost problem.now placement.now.sites) }
 {
     let cost = cost_of(problem, placement.sites.as_slice());
     let rule = Rule {

@@ -13,7 +13,7 @@ use crate::verdict::TreeWhy;
 use crate::{Problem, Tree};
 
 /// Why a node with these choices is wrong: the first reason, or None where it is right.
-pub fn node_fault(problem: &Problem, choices: &[u8], tree: &Tree) -> Option<TreeWhy>
+pub(crate) fn node_fault(problem: &Problem, choices: &[u8], tree: &Tree) -> Option<TreeWhy>
     requires choices { AreChoices problem.now choices.now }
     requires formed { IsTrue (is_formed_part (length choices.now) (part_of tree.now)) }
     ensures value { result ≡ node_fault problem.now choices.now (part_of tree.now) }
@@ -66,6 +66,7 @@ pub fn is_over(problem: &Problem, choices: &[u8]) -> bool
         return false;
     }
     let last = choices.len() - 1;
+    // Its sites are numbers of sites, and so is the choice.
     let _via = problem.via(last);
     !is_within_capacity(problem, choices, choices[last])
 }

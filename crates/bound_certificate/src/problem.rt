@@ -60,6 +60,7 @@ impl Problem {
         ensures value { result ≡ site_count self.now }
         ensures few { result ≤ 32 }
         ensures few_needs { need_count self.now ≤ 64 }
+        ensures within { IsWithin self.now.sites self.now.needs }
     {
         self.sites.len() as u8
     }
@@ -68,7 +69,9 @@ impl Problem {
     #[inline]
     pub fn need_count(&self) -> u8
         ensures value { result ≡ need_count self.now }
+        ensures some { 1 ≤ result }
         ensures few { result ≤ 64 }
+        ensures within { IsWithin self.now.sites self.now.needs }
     {
         self.needs.len() as u8
     }
@@ -114,6 +117,7 @@ impl Problem {
         ensures few { length result.now ≤ 8 }
         ensures known { All (λ site. site < site_count self.now) result.now }
         ensures few_needs { need_count self.now ≤ 64 }
+        ensures within { IsWithin self.now.sites self.now.needs }
     {
         self.needs[need].via.as_slice()
     }

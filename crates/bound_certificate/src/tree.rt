@@ -1,4 +1,6 @@
 //! The nodes of a certificate.
+ghost use Rattle.std.specs.Prelude.{◌≡◌};
+ghost use Rattle.bound_certificate.specs.Tree.{children_of};
 
 use sqlite_items::Items;
 
@@ -16,4 +18,14 @@ pub enum Tree {
     Dual { lambda: Items<u64>, mu: Items<u64> },
     /// The choices are a placement.
     Full,
+}
+
+/// The children of a node: none where it is no Branch.
+pub fn children(tree: &Tree) -> &[Tree]
+    ensures value { result.now ≡ children_of tree.now }
+{
+    match tree {
+        Tree::Branch(children) => children.as_slice(),
+        _ => &[],
+    }
 }

@@ -27,28 +27,34 @@ no_better-trans (Some x) (Some y) (Some z) first second =
     le-leb x z (omega arith)
 
 -- what holds under a best cost holds under a better one
-pub beaten_better : (p : Problem) (before after : Option ℕ) (cs : List ℕ) → is_no_better after before ≡ true → is_beaten p before cs ≡ true → is_beaten p after cs ≡ true
+pub beaten_better : (p : Problem) (before after : Option ℕ) (cs : List ℕ) → is_no_better after before ≡ true
+    → is_beaten p before cs ≡ true → is_beaten p after cs ≡ true
 unfolding is_beaten
-beaten_better p before after cs better beaten = no_better-trans after before (option_map (cost p) (completion p cs)) better beaten
+beaten_better p before after cs better beaten =
+    no_better-trans after before (option_map (cost p) (completion p cs)) better beaten
 
 both : (a b : Bool) → a ≡ true → b ≡ true → (a && b) ≡ true
 both true b h k = k
 both false b h k = cc
 
-pub explored_better : (p : Problem) (before after ceiling : Option ℕ) (vs : List Visit) → is_no_better after before ≡ true → are_explored p before ceiling vs ≡ true → are_explored p after ceiling vs ≡ true
+pub explored_better : (p : Problem) (before after ceiling : Option ℕ) (vs : List Visit)
+    → is_no_better after before ≡ true → are_explored p before ceiling vs ≡ true
+    → are_explored p after ceiling vs ≡ true
 unfolding are_explored is_explored
 explored_better p before after ceiling [] better all = refl
 explored_better p before after ceiling (v ∷ vs) better all =
     let parts = and_parts (is_explored p before ceiling v) (list_all (is_explored p before ceiling) vs) all in
     let here = and_parts (is_beaten p before v.choices) (is_tight p ceiling v.choices v.part) parts.0 in
     both (is_explored p after ceiling v) (list_all (is_explored p after ceiling) vs)
-    (both (is_beaten p after v.choices) (is_tight p ceiling v.choices v.part) (beaten_better p before after v.choices better here.0) here.1)
+    (both (is_beaten p after v.choices) (is_tight p ceiling v.choices v.part)
+    (beaten_better p before after v.choices better here.0) here.1)
     (explored_better p before after ceiling vs better parts.1)
 
 le_through : (x y : ℕ) (b : ℤ) → x ≤ y → int_le (pos y) b ≡ true → int_le (pos x) b ≡ true
 le_through x y b lower upper = grind (arith, ints, nat_tests)
 
-pub reaches_better : (before after : Option ℕ) (bound : Option ℤ) → is_no_better after before ≡ true → reaches before bound ≡ true → reaches after bound ≡ true
+pub reaches_better : (before after : Option ℕ) (bound : Option ℤ) → is_no_better after before ≡ true
+    → reaches before bound ≡ true → reaches after bound ≡ true
 reaches_better before after None better reached = refl
 reaches_better None after (Some b) better reached = cc
 reaches_better (Some y) None (Some b) better reached = cc
@@ -58,7 +64,8 @@ reaches_better (Some y) (Some x) (Some b) better reached = le_through x y b (leb
 le_min : (c : ℕ) (x y : ℤ) → int_le (pos c) x ≡ true → int_le (pos c) y ≡ true → int_le (pos c) (int_min x y) ≡ true
 le_min c x y one other = grind (arith, ints, nat_tests)
 
-pub reaches_both : (best : Option ℕ) (a b : Option ℤ) → reaches best a ≡ true → reaches best b ≡ true → reaches best (lesser a b) ≡ true
+pub reaches_both : (best : Option ℕ) (a b : Option ℤ) → reaches best a ≡ true → reaches best b ≡ true
+    → reaches best (lesser a b) ≡ true
 reaches_both best None b one other = other
 reaches_both best (Some x) None one other = one
 reaches_both None (Some x) (Some y) one other = cc

@@ -24,22 +24,28 @@ all_below-from test (suc n) each =
     rw before last
 
 -- one more choice gives its load to its site
-given-push : (p : Problem) (cs : List ℕ) (s x : ℕ) → given p (cs ++ s ∷ []) x ≡ given p cs x + cond {A = ℕ} (s == x) (load p (length cs)) 0
+given-push : (p : Problem) (cs : List ℕ) (s x : ℕ)
+    → given p (cs ++ s ∷ []) x ≡ given p cs x + cond {A = ℕ} (s == x) (load p (length cs)) 0
 unfolding given_by
 given-push p cs s x =
     let qs = cs ++ s ∷ [] in
     let size : length qs ≡ suc (length cs) = simp length-append (omega arith) in
-    let extends : Extends cs qs = record { few = omega (arith, size); same = λ i below. get_or_append_left cs (s ∷ []) 0 i below } in
+    let extends : Extends cs qs =
+    record { few = omega (arith, size); same = λ i below. get_or_append_left cs (s ∷ []) 0 i below } in
     let last : given_by p qs x (length cs) ≡ cond (s == x) (load p (length cs)) 0 =
     ap (λ (site : ℕ). cond (site == x) (load p (length cs)) 0) (get_or_push cs s 0 (length cs) refl) in
-    let whole : given p qs x ≡ sum_below (given_by p qs x) (suc (length cs)) = given-whole p qs x ∙ ap (sum_below (given_by p qs x)) size in
+    let whole : given p qs x ≡ sum_below (given_by p qs x) (suc (length cs)) =
+    given-whole p qs x ∙ ap (sum_below (given_by p qs x)) size in
     let before = given-extends p cs qs x extends in
     omega (arith, whole, before, last)
 
-within_push : (p : Problem) (cs : List ℕ) (s : ℕ) → all_below (is_within_capacity p cs) (site_count p) ≡ true → is_within_capacity p (cs ++ s ∷ []) s ≡ true → all_below (is_within_capacity p (cs ++ s ∷ [])) (site_count p) ≡ true
+within_push : (p : Problem) (cs : List ℕ) (s : ℕ) → all_below (is_within_capacity p cs) (site_count p) ≡ true
+    → is_within_capacity p (cs ++ s ∷ []) s ≡ true
+    → all_below (is_within_capacity p (cs ++ s ∷ [])) (site_count p) ≡ true
 unfolding is_within_capacity
 within_push p cs s within here = all_below-from (is_within_capacity p (cs ++ s ∷ [])) (site_count p) (λ x below.
-    let before = leb-true (given p cs x) (capacity p x) (all_below-at (is_within_capacity p cs) (site_count p) x within below) in
+    let before = leb-true (given p cs x) (capacity p x)
+    (all_below-at (is_within_capacity p cs) (site_count p) x within below) in
     let pushed = given-push p cs s x in
     elim (cases_Bool (s == x)) [
       | inl same ↦ subst (λ (k : ℕ). is_within_capacity p (cs ++ s ∷ []) k ≡ true) (eqb-true s x same) here
@@ -58,7 +64,8 @@ or_right true b h = refl
 or_right false b h = h
 
 -- the last choice's site is within its capacity where the node is not over
-last_within : (p : Problem) (cs : List ℕ) (s : ℕ) → is_over p (cs ++ s ∷ []) ≡ false → is_within_capacity p (cs ++ s ∷ []) s ≡ true
+last_within : (p : Problem) (cs : List ℕ) (s : ℕ) → is_over p (cs ++ s ∷ []) ≡ false
+    → is_within_capacity p (cs ++ s ∷ []) s ≡ true
 unfolding is_over
 last_within p cs s right =
     let qs = cs ++ s ∷ [] in
@@ -66,11 +73,14 @@ last_within p cs s right =
     let some : nat_lt 0 (length qs) ≡ true = lt-ltb 0 (length qs) (omega (arith, size)) in
     let place : length qs - 1 ≡ length cs = omega (arith, size) in
     let last : slice_index qs (length qs - 1) ≡ s = ap (slice_index qs) place ∙ get_or_push cs s 0 (length cs) refl in
-    let within : is_within_capacity p qs (slice_index qs (length qs - 1)) ≡ true = and_not (nat_lt 0 (length qs)) (is_within_capacity p qs (slice_index qs (length qs - 1))) right some in
+    let within : is_within_capacity p qs (slice_index qs (length qs - 1)) ≡ true =
+    and_not (nat_lt 0 (length qs)) (is_within_capacity p qs (slice_index qs (length qs - 1))) right some in
     subst (λ (k : ℕ). is_within_capacity p qs k ≡ true) last within
 
-pub roomy_push : (p : Problem) (cs : List ℕ) (s : ℕ) → IsRoomy p cs → is_over p (cs ++ s ∷ []) ≡ false → IsRoomy p (cs ++ s ∷ [])
-roomy_push p cs s room right = record { within = within_push p cs s room.within (last_within p cs s right); last = right }
+pub roomy_push : (p : Problem) (cs : List ℕ) (s : ℕ) → IsRoomy p cs → is_over p (cs ++ s ∷ []) ≡ false
+    → IsRoomy p (cs ++ s ∷ [])
+roomy_push p cs s room right =
+    record { within = within_push p cs s room.within (last_within p cs s right); last = right }
 
 pub roomy_nothing : (p : Problem) → IsRoomy p []
 unfolding is_over is_within_capacity given
@@ -80,7 +90,8 @@ roomy_nothing p = record {
 }
 
 -- a site with room for the next need is within its capacity with it
-room_within : (p : Problem) (cs : List ℕ) (s : ℕ) → has_room p cs s ≡ true → is_within_capacity p (cs ++ s ∷ []) s ≡ true
+room_within : (p : Problem) (cs : List ℕ) (s : ℕ) → has_room p cs s ≡ true
+    → is_within_capacity p (cs ++ s ∷ []) s ≡ true
 unfolding has_room is_within_capacity
 room_within p cs s room =
     let before = leb-true (given p cs s + load p (length cs)) (capacity p s) room in
@@ -98,11 +109,13 @@ unfolding has
 found test [] x is = cc
 found test (y ∷ ys) x is = elim (cases_Bool (test y)) [
   | inl passes ↦
-      let first : Some y ≡ Some x = sym (ap (λ (b : Bool). cond {A = Option ℕ} b (Some y) (find test ys)) passes) ∙ is in
+      let first : Some y ≡ Some x =
+      sym (ap (λ (b : Bool). cond {A = Option ℕ} b (Some y) (find test ys)) passes) ∙ is in
       let same : y ≡ x = cc in
       record { passes = subst (λ (k : ℕ). test k ≡ true) same passes; stands = rw (eq-eqb y x same) refl }
   | inr fails ↦
-      let later : find test ys ≡ Some x = sym (ap (λ (b : Bool). cond {A = Option ℕ} b (Some y) (find test ys)) fails) ∙ is in
+      let later : find test ys ≡ Some x =
+      sym (ap (λ (b : Bool). cond {A = Option ℕ} b (Some y) (find test ys)) fails) ∙ is in
       let rest = found test ys x later in
       record { passes = rest.passes; stands = or_right (y == x) (has ys x) rest.stands }
 ]
@@ -113,7 +126,9 @@ record IsWhole (p : Problem) (qs : List ℕ) : Type 0 where
   are : AreChoices p qs
   within : all_below (is_within_capacity p qs) (site_count p) ≡ true
 
-whole_push : (p : Problem) (cs : List ℕ) (n : ℕ) (qs : List ℕ) → AreChoices p cs → all_below (is_within_capacity p cs) (site_count p) ≡ true → length cs + n ≡ need_count p → completed p cs n ≡ Some qs → IsWhole p qs
+whole_push : (p : Problem) (cs : List ℕ) (n : ℕ) (qs : List ℕ) → AreChoices p cs
+    → all_below (is_within_capacity p cs) (site_count p) ≡ true → length cs + n ≡ need_count p
+    → completed p cs n ≡ Some qs → IsWhole p qs
 unfolding first_with_room completed
 whole_push p cs zero qs are within size done =
     let same : cs ≡ qs = cc in
@@ -124,7 +139,8 @@ whole_push p cs (suc n) qs are within size done =
       | Some s ↦ λ some.
           let next = found (has_room p cs) (via p (length cs)) s some in
           let longer : length (cs ++ s ∷ []) + n ≡ need_count p = simp length-append (omega arith) in
-          whole_push p (cs ++ s ∷ []) n qs (choices_push p cs s are (omega arith) next.stands) (within_push p cs s within (room_within p cs s next.passes)) longer
+          whole_push p (cs ++ s ∷ []) n qs (choices_push p cs s are (omega arith) next.stands)
+          (within_push p cs s within (room_within p cs s next.passes)) longer
           (sym (completed_on p cs s n some) ∙ done)
     ] refl
 
@@ -135,39 +151,51 @@ both false b h k = cc
 whole_fits : (p : Problem) (qs : List ℕ) → IsWhole p qs → fits p qs ≡ true
 unfolding fits is_placement
 whole_fits p qs whole =
-    let placed = both (length qs == need_count p) (all_below (is_chosen p qs) (length qs)) (eq-eqb (length qs) (need_count p) whole.size) (all_below-from (is_chosen p qs) (length qs) whole.are.each) in
+    let placed = both (length qs == need_count p) (all_below (is_chosen p qs) (length qs))
+    (eq-eqb (length qs) (need_count p) whole.size) (all_below-from (is_chosen p qs) (length qs) whole.are.each) in
     both (is_placement p qs) (all_below (is_within_capacity p qs) (site_count p)) placed whole.within
 
-pub completed_fits : (p : Problem) (cs qs : List ℕ) → AreChoices p cs → IsRoomy p cs → completed p cs (need_count p - length cs) ≡ Some qs → fits p qs ≡ true
+pub completed_fits : (p : Problem) (cs qs : List ℕ) → AreChoices p cs → IsRoomy p cs
+    → completed p cs (need_count p - length cs) ≡ Some qs → fits p qs ≡ true
 completed_fits p cs qs are room done =
     whole_fits p qs (whole_push p cs (need_count p - length cs) qs are room.within (omega (arith, are.few)) done)
 
 -- a cost that is no better than that of the completion beats the node
-pub beaten_by : (p : Problem) (best : Option ℕ) (cs : List ℕ) → is_no_better best (option_map (cost p) (completed p cs (need_count p - length cs))) ≡ true → is_beaten p best cs ≡ true
+pub beaten_by : (p : Problem) (best : Option ℕ) (cs : List ℕ)
+    → is_no_better best (option_map (cost p) (completed p cs (need_count p - length cs))) ≡ true
+    → is_beaten p best cs ≡ true
 unfolding is_beaten completion
 beaten_by p best cs beaten =
-    elim (is_over p cs) as (λ (b : Bool). is_no_better best (option_map (cost p) (cond b None (completed p cs (need_count p - length cs)))) ≡ true) [
+    elim (is_over p cs) as
+    (λ (b : Bool). is_no_better best
+    (option_map (cost p) (cond b None (completed p cs (need_count p - length cs)))) ≡ true) [
       | true ↦ refl
       | false ↦ beaten
     ]
 
 -- the root's completion is that of first fit
-pub root_beaten : (p : Problem) (best : Option ℕ) → is_beaten p best [] ≡ true → is_no_better best (first_fit_cost p) ≡ true
+pub root_beaten : (p : Problem) (best : Option ℕ) → is_beaten p best [] ≡ true
+    → is_no_better best (first_fit_cost p) ≡ true
 unfolding is_beaten completion first_fit_cost first_fit is_over
 root_beaten p best beaten =
     let none : need_count p - 0 ≡ need_count p = omega arith in
     subst (λ (n : ℕ). is_no_better best (option_map (cost p) (completed p [] n)) ≡ true) none beaten
 
 -- the completion's cost
-pub completion_beaten : (p : Problem) (best : Option ℕ) (cs qs : List ℕ) → completed p cs (need_count p - length cs) ≡ Some qs → is_no_better best (Some (cost p qs)) ≡ true → is_beaten p best cs ≡ true
+pub completion_beaten : (p : Problem) (best : Option ℕ) (cs qs : List ℕ)
+    → completed p cs (need_count p - length cs) ≡ Some qs → is_no_better best (Some (cost p qs)) ≡ true
+    → is_beaten p best cs ≡ true
 completion_beaten p best cs qs done better =
     beaten_by p best cs (subst (λ found. is_no_better best (option_map (cost p) found) ≡ true) (sym done) better)
 
-pub no_completion : (p : Problem) (best : Option ℕ) (cs : List ℕ) → completed p cs (need_count p - length cs) ≡ None → is_beaten p best cs ≡ true
-no_completion p best cs none = beaten_by p best cs (subst (λ found. is_no_better best (option_map (cost p) found) ≡ true) (sym none) refl)
+pub no_completion : (p : Problem) (best : Option ℕ) (cs : List ℕ) → completed p cs (need_count p - length cs) ≡ None
+    → is_beaten p best cs ≡ true
+no_completion p best cs none =
+    beaten_by p best cs (subst (λ found. is_no_better best (option_map (cost p) found) ≡ true) (sym none) refl)
 
 -- the best placement stays, or a new one that fits takes its place
-pub best_stays : (p : Problem) (before after : Option ℕ) (old new sites : List ℕ) (c : ℕ) → ((after ≡ before) × (new ≡ old)) ⊎ ((after ≡ Some c) × (new ≡ sites))
+pub best_stays : (p : Problem) (before after : Option ℕ) (old new sites : List ℕ) (c : ℕ)
+    → ((after ≡ before) × (new ≡ old)) ⊎ ((after ≡ Some c) × (new ≡ sites))
     → IsCostOf p sites c → IfSome before (IsCostOf p old) → IfSome after (IsCostOf p new)
 best_stays p before after old new sites c (inl same) is kept = rw (same.0, same.1) kept
 best_stays p before after old new sites c (inr taken) is kept = rw (taken.0, taken.1) is

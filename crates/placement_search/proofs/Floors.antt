@@ -28,7 +28,8 @@ first_below-none test zero each = refl
 first_below-none test (suc n) each =
     let before = first_below-none test n (λ i below. each i (omega arith)) in
     let last = each n (omega arith) in
-    ap (λ found. option_or found (cond (test n) (Some n) None)) before ∙ ap (λ (b : Bool). cond {A = Option ℕ} b (Some n) None) last
+    ap (λ found. option_or found (cond (test n) (Some n) None)) before
+    ∙ ap (λ (b : Bool). cond {A = Option ℕ} b (Some n) None) last
 
 -- a sum whose terms but the first are 0
 not_first : (n : ℕ) → (suc n == 0) ≡ false
@@ -43,23 +44,30 @@ first_term k (suc (suc n)) =
     omega (arith, before, last)
 
 -- the excess of a least price is at most the opening, and only that of the first need is above 0
-excess_le : (p : Problem) (cs lambda mu : List ℕ) (s j : ℕ) → slice_index lambda j ≡ floor_by p cs j → slice_index mu s ≡ 0 → excess p cs lambda mu s j ≤ cond {A = ℕ} (j == 0) (dual_limit p cs s) 0
+excess_le : (p : Problem) (cs lambda mu : List ℕ) (s j : ℕ) → slice_index lambda j ≡ floor_by p cs j
+    → slice_index mu s ≡ 0 → excess p cs lambda mu s j ≤ cond {A = ℕ} (j == 0) (dual_limit p cs s) 0
 unfolding excess floor_by need_price
 excess_le p cs lambda mu s j least free = elim (cases_Bool (has (via p (length cs + j)) s)) [
   | inl stands ↦
-      let lower : least_by (need_price p cs j) (via p (length cs + j)) ≤ need_price p cs j s = least_by-le (need_price p cs j) (via p (length cs + j)) s stands in
-      let none : load p (length cs + j) * slice_index mu s ≡ 0 = ap (λ (x : ℕ). load p (length cs + j) * x) free ∙ mul-zero (load p (length cs + j)) in
-      let value = ap (λ (b : Bool). cond {A = ℕ} b (slice_index lambda j - (service p s (length cs + j) + load p (length cs + j) * slice_index mu s)) 0) stands in
+      let lower : least_by (need_price p cs j) (via p (length cs + j)) ≤ need_price p cs j s =
+      least_by-le (need_price p cs j) (via p (length cs + j)) s stands in
+      let none : load p (length cs + j) * slice_index mu s ≡ 0 =
+      ap (λ (x : ℕ). load p (length cs + j) * x) free ∙ mul-zero (load p (length cs + j)) in
+      let value = ap (λ (b : Bool). cond {A = ℕ} b
+      (slice_index lambda j - (service p s (length cs + j) + load p (length cs + j) * slice_index mu s)) 0) stands in
       omega (arith, value, least, none, lower)
   | inr misses ↦
-      let value = ap (λ (b : Bool). cond {A = ℕ} b (slice_index lambda j - (service p s (length cs + j) + load p (length cs + j) * slice_index mu s)) 0) misses in
+      let value = ap (λ (b : Bool). cond {A = ℕ} b
+      (slice_index lambda j - (service p s (length cs + j) + load p (length cs + j) * slice_index mu s)) 0) misses in
       omega (arith, value)
 ]
 
-sum_le : (p : Problem) (cs lambda mu : List ℕ) (s : ℕ) → IsFloorDual p cs lambda mu → dual_sum p cs lambda mu s ≤ dual_limit p cs s
+sum_le : (p : Problem) (cs lambda mu : List ℕ) (s : ℕ) → IsFloorDual p cs lambda mu
+    → dual_sum p cs lambda mu s ≤ dual_limit p cs s
 unfolding dual_sum
 sum_le p cs lambda mu s is =
-    let each = sum_below-le (excess p cs lambda mu s) (λ j. cond {A = ℕ} (j == 0) (dual_limit p cs s) 0) (length lambda) (λ j below. excess_le p cs lambda mu s j (is.least j below) (is.free s)) in
+    let each = sum_below-le (excess p cs lambda mu s) (λ j. cond {A = ℕ} (j == 0) (dual_limit p cs s) 0)
+    (length lambda) (λ j below. excess_le p cs lambda mu s j (is.least j below) (is.free s)) in
     let first = first_term (dual_limit p cs s) (length lambda) in
     omega (arith, each, first)
 
@@ -69,7 +77,8 @@ not_less a b h = grind (arith, nat_tests)
 floor_right : (p : Problem) (cs lambda mu : List ℕ) → IsFloorDual p cs lambda mu → dual_breach p cs lambda mu ≡ None
 unfolding dual_breach is_breached
 floor_right p cs lambda mu is =
-    first_below-none (is_breached p cs lambda mu) (site_count p) (λ s below. not_less (dual_limit p cs s) (dual_sum p cs lambda mu s) (sum_le p cs lambda mu s is))
+    first_below-none (is_breached p cs lambda mu) (site_count p)
+    (λ s below. not_less (dual_limit p cs s) (dual_sum p cs lambda mu s) (sum_le p cs lambda mu s is))
 
 no_debit : (c d b : ℕ) → b ≡ 0 → c ≤ d → int_le (pos c) (pos d -ℤ pos b) ≡ true
 no_debit c d b none h = grind (arith, ints, nat_tests)
@@ -81,16 +90,19 @@ free_capacity p mu s free = ap (λ (x : ℕ). capacity p s * x) free ∙ mul-zer
 zero_at : (mu : List ℕ) (k d : ℕ) → k < length mu → slice_index_or mu k d ≡ slice_index mu k
 zero_at mu k d below = get_or_default mu k d 0 below
 
-floor_tight : (p : Problem) (cs lambda mu : List ℕ) → IsFloorDual p cs lambda mu → int_le (pos (floor p cs)) (dual_value p cs lambda mu) ≡ true
+floor_tight : (p : Problem) (cs lambda mu : List ℕ) → IsFloorDual p cs lambda mu
+    → int_le (pos (floor p cs)) (dual_value p cs lambda mu) ≡ true
 unfolding floor dual_value dual_credit dual_debit priced_capacity_by
 floor_tight p cs lambda mu is =
     let total = sum-index lambda in
     let each = sum_below-same (λ j. slice_index lambda j) (floor_by p cs) (length lambda) is.least in
     let size = ap (sum_below (floor_by p cs)) is.lambdas in
     let none = sum_below-zero (priced_capacity_by p mu) (site_count p) (λ s below. free_capacity p mu s (is.free s)) in
-    no_debit (cost p cs + sum_below (floor_by p cs) (need_count p - length cs)) (dual_credit p cs lambda mu) (sum_below (priced_capacity_by p mu) (site_count p)) none (omega (arith, total, each, size))
+    no_debit (cost p cs + sum_below (floor_by p cs) (need_count p - length cs)) (dual_credit p cs lambda mu)
+    (sum_below (priced_capacity_by p mu) (site_count p)) none (omega (arith, total, each, size))
 
-pub floor_dual : (p : Problem) (cs lambda mu : List ℕ) → AreChoices p cs → IsFloorDual p cs lambda mu → IsDual p cs lambda mu
+pub floor_dual : (p : Problem) (cs lambda mu : List ℕ) → AreChoices p cs → IsFloorDual p cs lambda mu
+    → IsDual p cs lambda mu
 floor_dual p cs lambda mu are is = record {
   prices = record {
     lambdas = omega (arith, is.lambdas, are.few);

@@ -9,6 +9,9 @@ use bound_certificate::{Problem, dual_limit};
 /// How often each lambda is raised at most.
 const ROUNDS: u32 = 64;
 
+/// What a site counts beside its cost where its limit is not used up.
+const UNPAID: u64 = 1 << 60;
+
 /// The lambda of each need, and what is left of each site's limit, under prices of the capacities.
 #[derive(Drop)]
 pub struct Ascent {
@@ -66,7 +69,7 @@ impl Ascent {
     pub(crate) fn demand(&self, problem: &Problem) -> [u64; 32] {
         let mut demand = [0; 32];
         for need in 0..usize::from(problem.need_count()) {
-            let place = usize::from(self.cheapest(problem, need) % 32);
+            let place = usize::from(self.cheapest(problem, need));
             let load = u64::from(problem.load(need));
             demand[place] = load.saturating_add(demand[place]);
         }
@@ -76,23 +79,34 @@ impl Ascent {
     // The cheapest site of a need's via whose limit is used up, or else the cheapest of all.
     fn cheapest(&self, problem: &Problem, need: usize) -> u8
         requires { need < need_count problem.now }
+        ensures known { result < 32 }
     {
-        let mut cheapest = problem.via(need)[0];
+        let via = problem.via(need);
+        let mut cheapest = via[0];
         let mut least = u64::MAX;
-        for site in problem.via(need) {
-            let own = cost(problem, &self.prices, *site, need);
-            let is_paid = self.slack[usize::from(*site % 32)] == 0 && own <= self.levels[need % 64];
-            let ranked = if is_paid {
-                own
-            } else {
-                own.saturating_add(1 << 60)
-            };
-            if ranked < least {
-                least = ranked;
+        for site in via {
+            let rank = self.rank(problem, *site, need);
+            if rank < least {
+                least = rank;
                 cheapest = *site;
             }
         }
         cheapest
+    }
+
+    // What a need costs at a site, and more than at any other where its limit is not used up by then.
+    fn rank(&self, problem: &Problem, site: u8, need: usize) -> u64
+        requires site { site < site_count problem.now }
+        requires known { site < 32 }
+        requires need { need < need_count problem.now }
+        requires few { need_count problem.now ≤ 64 }
+    {
+        let own = cost(problem, &self.prices, site, need);
+        if self.slack[usize::from(site)] == 0 && own <= self.levels[need] {
+            own
+        } else {
+            own.saturating_add(UNPAID)
+        }
     }
 
     // Raises each lambda once; whether one rose.
@@ -115,7 +129,6 @@ impl Ascent {
             return false;
         }
         self.press(problem, need, step);
-        let _count = problem.need_count();
         self.levels[need] = self.levels[need].saturating_add(step);
         true
     }
@@ -123,11 +136,12 @@ impl Ascent {
     // How far the lambda of a need can rise: to the next cost, and as the sites' limits allow.
     fn step(&self, problem: &Problem, need: usize) -> u64
         requires { need < need_count problem.now }
+        ensures few { need_count problem.now ≤ 64 }
     {
-        let _count = problem.site_count();
+        let via = problem.via(need);
         let level = self.levels[need];
         let mut step = u64::MAX;
-        for site in problem.via(need) {
+        for site in via {
             let price = cost(problem, &self.prices, *site, need);
             if level < price {
                 step = step.min(price - level);
@@ -142,9 +156,9 @@ impl Ascent {
     fn press(&mut self, problem: &Problem, need: usize, step: u64)
         requires { need < need_count problem.now }
     {
-        let _count = problem.site_count();
+        let via = problem.via(need);
         let level = self.levels[need];
-        for site in problem.via(need) {
+        for site in via {
             if cost(problem, &self.prices, *site, need) <= level {
                 let left = self.slack[usize::from(*site)];
                 self.slack[usize::from(*site)] = left.saturating_sub(step);
@@ -156,6 +170,7 @@ impl Ascent {
 // What a need costs at a site, with its part of the capacity.
 fn cost(problem: &Problem, prices: &CapacityPrices, site: u8, need: usize) -> u64
     requires site { site < site_count problem.now }
+    requires known { site < 32 }
     requires need { need < need_count problem.now }
 {
     let load = u64::from(problem.load(need));

@@ -1,5 +1,5 @@
 //! The tree below a node, by recursion.
-ghost use Rattle.std.specs.Prelude.{◌≡◌, ◌<◌, [], ◌∷◌, ◌++◌, length, IfOk, IsTrue};
+ghost use Rattle.std.specs.Prelude.{◌≡◌, ◌<◌, ◌≤◌, [], ◌∷◌, ◌++◌, length, IfOk, IsTrue};
 ghost use Rattle.bound_certificate.specs.Problem.{need_count, via};
 ghost use Rattle.bound_certificate.specs.Placement.{AreChoices};
 ghost use Rattle.bound_certificate.specs.Sums.{has};
@@ -26,8 +26,6 @@ pub fn search_at(
     requires kept { IsKept problem.now progress.old }
     ensures searched { IfOk result (IsTreeSearched problem.now choices.now progress.old progress.new) }
 {
-    // Its sites are within their limits, so that each via has few of them.
-    let _sites = problem.sites();
     progress.offer(problem, choices);
     let found = leaf_at(alloc, problem, choices, progress)?;
     if let Some(leaf) = found {
@@ -73,14 +71,13 @@ fn search_child(
     progress: &mut Progress,
 ) -> Result<Tree, Memory>
     requires above { length choices.now < need_count problem.now }
+    requires few { need_count problem.now ≤ 64 }
     requires site { IsTrue (has (via problem.now (length choices.now)) site) }
     requires choices { AreChoices problem.now choices.now }
     requires room { IsRoomy problem.now choices.now }
     requires kept { IsKept problem.now progress.old }
     ensures searched { IfOk result (IsTreeSearched problem.now (choices.now ++ site ∷ []) progress.old progress.new) }
 {
-    // Its sites are within their limits, so that each via names one of them.
-    let _sites = problem.sites();
     let child = choices.with(site);
     if is_over(problem, child.as_slice()) {
         return Ok(Tree::Over);

@@ -1,6 +1,6 @@
 //! A guess at prices of the sites' capacities, under which the dual of the root is great. How great isn't claimed:
 //! what takes the prices tests them.
-ghost use Rattle.std.specs.Prelude.{◌≡◌, ◌==◌, ◌%◌, slice_index, true};
+ghost use Rattle.std.specs.Prelude.{◌≡◌, ◌==◌, ◌<◌, slice_index, true};
 ghost use Rattle.std.specs.List.{list_all};
 
 use crate::ascent::Ascent;
@@ -11,6 +11,16 @@ const ROUNDS: u64 = 200;
 
 /// A step counts so many parts of a price.
 const PARTS: u64 = 1024;
+
+/// The step of round 0 is this many units, divided by the slowness; that of a later round is less by its number.
+const FIRST_STEP: u64 = 16;
+
+const SLOWNESS: u64 = 10;
+
+/// A site's price is first changed by this many units, and how often that is halved.
+const FIRST_CHANGE: u64 = 4;
+
+const HALVINGS: u32 = 8;
 
 /// A price for each unit of a site's capacity.
 #[derive(Clone, Copy)]
@@ -28,17 +38,18 @@ impl CapacityPrices {
 
     /// The price of a site's unit.
     pub fn at(&self, site: u8) -> u64
-        ensures value { result ≡ slice_index self.now.mu (site % 32) }
+        requires { site < 32 }
+        ensures value { result ≡ slice_index self.now.mu site }
     {
-        self.mu[usize::from(site % 32)]
+        self.mu[usize::from(site)]
     }
 
     /// The best prices of a search by demand and then site by site. A unit of load costs about so much.
     pub(crate) fn guess(problem: &Problem, unit: u64) -> CapacityPrices {
         let mut best = Trial::of(problem, CapacityPrices::none());
         best.follow_demand(problem, unit);
-        let mut change = unit.saturating_mul(4).max(1);
-        for _ in 0..8 {
+        let mut change = unit.saturating_mul(FIRST_CHANGE).max(1);
+        for _ in 0..HALVINGS {
             best.try_sites(problem, change);
             change = (change / 2).max(1);
         }
@@ -46,9 +57,11 @@ impl CapacityPrices {
     }
 
     // With another price of a site.
-    fn with(self, site: u8, mu: u64) -> CapacityPrices {
+    fn with(self, site: u8, mu: u64) -> CapacityPrices
+        requires { site < 32 }
+    {
         let mut prices = self;
-        prices.mu[usize::from(site % 32)] = mu;
+        prices.mu[usize::from(site)] = mu;
         prices
     }
 }
@@ -88,7 +101,7 @@ impl Trial {
             let prices = whole(&parts);
             let ascent = Ascent::new(problem, &[], &prices);
             self.offer(problem, prices);
-            let step = unit.saturating_mul(16 * PARTS) / (10 + round);
+            let step = unit.saturating_mul(FIRST_STEP * PARTS) / (SLOWNESS + round);
             parts = moved(problem, &parts, &ascent, step);
         }
     }
@@ -122,7 +135,7 @@ fn moved(problem: &Problem, parts: &CapacityPrices, ascent: &Ascent, step: u64) 
     for site in 0..problem.site_count() {
         let place = usize::from(site);
         let capacity = u64::from(problem.capacity(place));
-        let wanted = demand[place % 32];
+        let wanted = demand[place];
         let change = step.saturating_mul(wanted.abs_diff(capacity)) / capacity.max(1);
         let old = parts.at(site);
         let mu = if wanted > capacity {

@@ -27,7 +27,6 @@ fn smaller_crowd(problem: &Problem, choices: &Numbers) -> Option<Numbers>
     requires { length choices.now < need_count problem.now }
     ensures crowd { IfSome result (IsCrowd problem.now choices.now) }
 {
-    let _count = problem.need_count();
     let room = Room::beside(problem, choices.as_slice());
     for need in choices.len()..usize::from(problem.need_count()) {
         let names = confined(problem, choices.len(), need);

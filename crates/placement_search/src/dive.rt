@@ -1,5 +1,5 @@
 //! A guess at a good placement: need by need, the site whose dual promises the least cost.
-ghost use Rattle.std.specs.Prelude.{◌≡◌, ◌⊎◌, ◌<◌, [], ◌∷◌, ◌++◌, length, IfSome, IsTrue};
+ghost use Rattle.std.specs.Prelude.{◌≡◌, ◌⊎◌, ◌<◌, ◌≤◌, [], ◌∷◌, ◌++◌, length, IfSome, IsTrue};
 ghost use Rattle.bound_certificate.specs.Problem.{need_count, via};
 ghost use Rattle.bound_certificate.specs.Placement.{AreChoices};
 ghost use Rattle.bound_certificate.specs.Sums.{has};
@@ -21,8 +21,6 @@ pub fn dive(problem: &Problem) -> Option<Numbers>
     ensures chosen { IfSome result (AreChoices problem.now) }
     ensures all { IfSome result (λ sites. length sites ≡ need_count problem.now) }
 {
-    // Its sites are within their limits, so that it has few needs.
-    let _sites = problem.sites();
     let mut choices = Numbers::new();
     for _ in 0..problem.need_count() {
         let Some(guess) = best_guess(problem, &choices) else {
@@ -67,11 +65,11 @@ fn lesser(one: Option<Guess>, other: Option<Guess>) -> Option<Guess>
 // What the cost would be at least with this site for the next need; None where it has no room.
 fn estimate(problem: &Problem, choices: &Numbers, site: u8) -> Option<Guess>
     requires above { length choices.now < need_count problem.now }
+    requires few { need_count problem.now ≤ 64 }
     requires choices { AreChoices problem.now choices.now }
     requires site { IsTrue (has (via problem.now (length choices.now)) site) }
     ensures site { IfSome result (λ guess. guess.site ≡ site) }
 {
-    let _sites = problem.sites();
     let child = choices.with(site);
     let sites = child.as_slice();
     if is_over(problem, sites) {

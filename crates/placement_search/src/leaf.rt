@@ -30,8 +30,6 @@ pub fn leaf_at(
     ensures found { IfOk result (λ found. MatchOption found (IsOpen problem.now choices.now progress.now)
         (IsLeaf problem.now choices.now progress.now)) }
 {
-    // Its sites are within their limits, so that it has few of them.
-    let _sites = problem.sites();
     if choices.len() == usize::from(problem.need_count()) {
         return Ok(Some(Tree::Full));
     }

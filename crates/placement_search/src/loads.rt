@@ -1,9 +1,12 @@
 //! A site for each need, and what these choices put on the sites. What it helps to find is tested before it is taken.
 //! Sums that are too large stay at their greatest.
-ghost use Rattle.std.specs.Prelude.{◌≡◌, ◌<◌, ◌+◌, ◌-◌, ◌*◌, ◌%◌, ◌^◌, ℕ, min, take, length, slice_index, slice_set};
+ghost use Rattle.std.specs.Prelude.{◌≡◌, ◌<◌, ◌+◌, ◌-◌, ◌*◌, ◌^◌, ℕ, min, take, length, slice_index, slice_set};
 ghost use Rattle.bound_certificate.specs.Problem.{need_count, site_count, capacity};
 
 use bound_certificate::{Numbers, Problem};
+
+/// How many numbers a byte has, and so how many a site may have.
+const NUMBERS: usize = 256;
 
 /// A cost, and how much load is above capacities.
 #[derive(Clone, Copy)]
@@ -47,8 +50,8 @@ impl Price {
 #[derive(Drop)]
 pub struct Loads {
     sites: [u8; 64],
-    carried: [u64; 32],
-    served: [u32; 32],
+    carried: [u64; NUMBERS],
+    served: [u32; NUMBERS],
 }
 
 impl Loads {
@@ -59,8 +62,8 @@ impl Loads {
     {
         let mut loads = Loads {
             sites: [0; 64],
-            carried: [0; 32],
-            served: [0; 32],
+            carried: [0; NUMBERS],
+            served: [0; NUMBERS],
         };
         for need in 0..problem.need_count() {
             let place = usize::from(need);
@@ -75,14 +78,16 @@ impl Loads {
 
     /// The site of a need.
     pub fn site(&self, need: u8) -> u8
-        ensures value { result ≡ slice_index self.now.sites (need % 64) }
+        requires { need < 64 }
+        ensures value { result ≡ slice_index self.now.sites need }
     {
-        self.sites[usize::from(need % 64)]
+        self.sites[usize::from(need)]
     }
 
     /// Gives a need another site.
     pub fn put(&mut self, problem: &Problem, need: u8, site: u8)
-        ensures sites { self.new.sites ≡ slice_set self.old.sites (need % 64) site }
+        requires { need < need_count problem.now }
+        ensures sites { self.new.sites ≡ slice_set self.old.sites need site }
     {
         self.take(problem, need);
         self.add(problem, need, site);
@@ -97,7 +102,7 @@ impl Loads {
         let Some(numbers) = problem.sites().get(usize::from(site)) else {
             return Price { cost: 0, over: 0 };
         };
-        let place = usize::from(site % 32);
+        let place = usize::from(site);
         let carried = self.carried[place];
         let service = carried.saturating_mul(u64::from(numbers.unit));
         let opening = if self.served[place] == 0 {
@@ -143,29 +148,24 @@ impl Loads {
 
     // Puts a need's load on a site.
     fn add(&mut self, problem: &Problem, need: u8, site: u8)
-        ensures sites { self.new.sites ≡ slice_set self.old.sites (need % 64) site }
+        requires { need < need_count problem.now }
+        ensures sites { self.new.sites ≡ slice_set self.old.sites need site }
     {
-        let place = usize::from(site % 32);
-        self.carried[place] = self.carried[place].saturating_add(load(problem, need));
+        let load = u64::from(problem.load(usize::from(need)));
+        let place = usize::from(site);
+        self.carried[place] = self.carried[place].saturating_add(load);
         self.served[place] = self.served[place].saturating_add(1);
-        self.sites[usize::from(need % 64)] = site;
+        self.sites[usize::from(need)] = site;
     }
 
     // Takes a need's load off its site.
     fn take(&mut self, problem: &Problem, need: u8)
+        requires { need < need_count problem.now }
         ensures sites { self.new.sites ≡ self.old.sites }
     {
-        let place = usize::from(self.site(need) % 32);
-        self.carried[place] = self.carried[place].saturating_sub(load(problem, need));
+        let load = u64::from(problem.load(usize::from(need)));
+        let place = usize::from(self.site(need));
+        self.carried[place] = self.carried[place].saturating_sub(load);
         self.served[place] = self.served[place].saturating_sub(1);
-    }
-}
-
-// The load of a need.
-fn load(problem: &Problem, need: u8) -> u64 {
-    if need < problem.need_count() {
-        u64::from(problem.load(usize::from(need)))
-    } else {
-        0
     }
 }

@@ -9,8 +9,7 @@ ghost use Rattle.placement_search.specs.Leaf.{IsFloorDual, IsDual};
 
 use crate::ascent::Ascent;
 use crate::capacity_prices::CapacityPrices;
-use bound_certificate::floors::floor_by;
-use bound_certificate::{Problem, dual_breach, dual_value};
+use bound_certificate::{Problem, dual_breach, dual_value, floor_by};
 use mon_io::Memory;
 use sqlite_items::Items;
 use std::alloc::Global;
@@ -34,8 +33,6 @@ pub fn prices_at(
     requires { AreChoices problem.now choices.now }
     ensures dual { IfOk result (λ prices. IsDual problem.now choices.now prices.lambda prices.mu) }
 {
-    // Its sites are within their limits, so that each via names one of them.
-    let _sites = problem.sites();
     let floor = floor_dual(alloc, problem, choices)?;
     let free = CapacityPrices::none();
     let raised = better_prices(alloc, problem, choices, &free, floor)?;

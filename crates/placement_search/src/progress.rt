@@ -1,5 +1,6 @@
 //! The best placement so far, and the Branch nodes that are left.
 ghost use Rattle.std.specs.Prelude.{◌≡◌, ◌⊎◌, None, Some, IfSome, IsTrue, not};
+ghost use Rattle.bound_certificate.specs.Limits.{IsWithin};
 ghost use Rattle.bound_certificate.specs.Placement.{AreChoices};
 ghost use Rattle.bound_certificate.specs.Outcome.{is_no_better, is_beaten};
 
@@ -47,9 +48,8 @@ impl Progress {
         ensures best { IfSome self.old.cost (IsCostOf problem.now self.old.sites)
             → IfSome self.new.cost (IsCostOf problem.now self.new.sites) }
         ensures beaten { IsTrue (is_beaten problem.now self.new.cost choices.now) }
+        ensures within { IsWithin problem.now.sites problem.now.needs }
     {
-        // Its sites are within their limits, so that each via names one of them.
-        let _sites = problem.sites();
         let Some(completed) = complete(problem, choices) else {
             return;
         };

@@ -3,7 +3,7 @@ ghost use Rattle.std.specs.Prelude.{◌≡◌, ◌<◌, ◌≤◌, [], length, N
 ghost use Rattle.bound_certificate.specs.Node.{is_crowded, later};
 ghost use Rattle.bound_certificate.specs.Tree.{visits, first_fault, bound_of};
 ghost use Rattle.bound_certificate.specs.Formed.{is_formed};
-ghost use Rattle.bound_certificate.specs.Outcome.{tree_of, is_right};
+ghost use Rattle.bound_certificate.specs.Outcome.{is_right};
 ghost use Rattle.bound_certificate.specs.Whole.{whole};
 ghost use Rattle.placement_search.specs.Kept.{IsKept};
 ghost use Rattle.placement_search.specs.Overload.{is_overloaded};
@@ -31,13 +31,10 @@ pub fn search(alloc: Global, problem: &Problem, nodes: u32) -> Result<Outcome, M
     requires some { 1 ≤ nodes }
     requires few { nodes ≤ 4096 }
     ensures right { IfOk result (λ outcome. IsTrue (is_right problem.now nodes outcome)) }
-    ensures formed { IfOk result (λ outcome. IsTrue (is_formed (tree_of outcome))) }
     ensures settled { whole problem.now < nodes → IfOk result (IsSettled problem.now) }
     ensures overloaded { IsTrue (is_overloaded problem.now)
         → IfOk result (λ outcome. outcome ≡ Outcome.Infeasible (Tree.Hall (later problem.now 0))) }
 {
-    // Its sites are within their limits, so that each via names one of them.
-    let _sites = problem.sites();
     let all = later(problem, 0);
     if is_crowded(problem, &[], all.as_slice()) {
         return crowded_out(alloc, &all);

@@ -1,7 +1,7 @@
 //! A guess at a good placement: a walk among neighbouring choices, which may step up in cost by less and less
 //! (threshold accepting, Dueck and Scheuer 1990). How good it is isn't claimed: what it finds is tested before it is
 //! taken.
-ghost use Rattle.std.specs.Prelude.{◌≡◌, None, IfSome, length};
+ghost use Rattle.std.specs.Prelude.{◌≡◌, ◌<◌, None, IfSome, length};
 ghost use Rattle.bound_certificate.specs.Problem.{need_count};
 
 use crate::loads::{Loads, Price};
@@ -12,6 +12,12 @@ use rand_xoshiro::Xoshiro256PlusPlus;
 
 /// How many steps are tried for each need.
 const STEPS: u64 = 600;
+
+/// The first step may raise the cost by this many mean costs of a need.
+const MEANS: u64 = 2;
+
+/// The mean load above a capacity counts this many times that rise.
+const EXCESS: u64 = 8;
 
 /// The seed of the draws.
 const SEED: u64 = 1;
@@ -55,7 +61,10 @@ struct Step {
 
 impl Step {
     // The step that undoes it.
-    fn reversed(self) -> Step {
+    fn reversed(self) -> Step
+        ensures need { result.need ≡ self.need }
+        ensures back { result.back ≡ self.back }
+    {
         Step {
             need: self.need,
             from: self.to,
@@ -66,22 +75,21 @@ impl Step {
 }
 
 impl Walker {
-    // The first step may raise the cost by twice the mean cost of a need. The mean load above a capacity counts eight
-    // times that.
+    // A walk from these choices, before its first step.
     fn new(problem: &Problem, start: &[u8]) -> Walker
         ensures none { result.best ≡ None }
     {
         let loads = Loads::of(problem, start);
         let price = loads.total(problem);
         let needs = u64::from(problem.need_count());
-        let rise = (price.cost / needs.max(1)).saturating_mul(2);
+        let rise = (price.cost / needs.max(1)).saturating_mul(MEANS);
         let mean_load = loads.carried() / needs.max(1);
         Walker {
             loads,
             price,
             steps: STEPS * needs,
             rise,
-            penalty: (rise.saturating_mul(8) / mean_load.max(1)).saturating_add(1),
+            penalty: (rise.saturating_mul(EXCESS) / mean_load.max(1)).saturating_add(1),
             best: None,
             best_cost: u64::MAX,
         }
@@ -107,15 +115,18 @@ impl Walker {
     }
 
     // A step of a drawn need to a drawn site; None where it is there. A second drawn need steps back where it can.
-    fn drawn(&self, problem: &Problem, draws: &mut Xoshiro256PlusPlus) -> Option<Step> {
+    fn drawn(&self, problem: &Problem, draws: &mut Xoshiro256PlusPlus) -> Option<Step>
+        ensures need { IfSome result (λ step. step.need < need_count problem.now) }
+        ensures back { IfSome result (λ step. IfSome step.back (λ other. other < need_count problem.now)) }
+    {
         let need = below(draws, problem.need_count());
         let other = below(draws, problem.need_count());
-        let to = drawn_site(problem, draws, need)?;
+        let to = drawn_site(problem, draws, need);
         let from = self.loads.site(need);
         if to == from {
             return None;
         }
-        let goes_back = self.loads.site(other) == to && has(via_of(problem, other), from);
+        let goes_back = self.loads.site(other) == to && has(problem.via(usize::from(other)), from);
         Some(Step {
             need,
             from,
@@ -131,6 +142,8 @@ impl Walker {
     }
 
     fn make(&mut self, problem: &Problem, step: Step)
+        requires need { step.need < need_count problem.now }
+        requires back { IfSome step.back (λ other. other < need_count problem.now) }
         ensures stays { self.new.best ≡ self.old.best }
     {
         self.loads.put(problem, step.need, step.to);
@@ -151,26 +164,19 @@ impl Walker {
     }
 }
 
-// The sites that can serve a need; none where there is no such need.
-fn via_of(problem: &Problem, need: u8) -> &[u8] {
-    if need < problem.need_count() {
-        problem.via(usize::from(need))
-    } else {
-        &[]
-    }
+// A drawn site of a need's via, each as likely as another.
+fn drawn_site(problem: &Problem, draws: &mut Xoshiro256PlusPlus, need: u8) -> u8
+    requires { need < need_count problem.now }
+{
+    let via = problem.via(usize::from(need));
+    let place = below(draws, via.len() as u8);
+    via[usize::from(place)]
 }
 
-// A drawn site of a need's via.
-fn drawn_site(problem: &Problem, draws: &mut Xoshiro256PlusPlus, need: u8) -> Option<u8> {
-    let via = via_of(problem, need);
-    let place = below(draws, problem.need_count());
-    via.get(usize::from(place) % via.len().max(1)).copied()
-}
-
-// A drawn number below this one, or 0 where that is 0.
-fn below(draws: &mut Xoshiro256PlusPlus, bound: u8) -> u8 {
-    if bound == 0 {
-        return 0;
-    }
+// A drawn number below this one.
+fn below(draws: &mut Xoshiro256PlusPlus, bound: u8) -> u8
+    requires { 0 < bound }
+    ensures below { result < bound }
+{
     ((draws.next_word() >> 32) % u64::from(bound)) as u8
 }

@@ -64,7 +64,8 @@ check_at-returns-clause-ok t c =
     sym (rw c.as_slice.ensures.value at c.node_fault.ensures.value) ∙ c.in_default.is in
     let own : Tally = record { verdict = c.own_verdict.result; nodes = 1 } in
     if_ok c.check_children.result
-    (λ tally adds. adds_tallied c.args.problem.now c.args.tree.now c.args.choices.now c.args.number own tally right (rw c.as_slice-2.ensures.value at c.own_verdict.ensures) refl adds)
+    (λ tally adds. adds_tallied c.args.problem.now c.args.tree.now c.args.choices.now c.args.number own tally right
+    (rw c.as_slice-2.ensures.value at c.own_verdict.ensures) refl adds)
     (rw c.children.ensures.value at c.check_children.ensures.ok)
 
 pub check_at-returns-clause-err : goal.check_at-returns-clause-err
@@ -76,7 +77,8 @@ check_at-returns-clause-err t c =
     (rw c.children.ensures.value at c.check_children.ensures.err)
 
 -- the child at hand comes before those that are left
-split : (ts : List Tree) (n : ℕ) (child : Tree) → n < length ts → child ≡ get_or ts n child → drop n ts ≡ child ∷ drop (n + 1) ts
+split : (ts : List Tree) (n : ℕ) (child : Tree) → n < length ts → child ≡ get_or ts n child
+    → drop n ts ≡ child ∷ drop (n + 1) ts
 split ts n child within is = rw add-one (drop-cons ts n child within ∙ ap (λ t. t ∷ drop (suc n) ts) (sym is))
 
 pub check_children-check_at-requires : goal.check_children-check_at-requires
@@ -95,7 +97,8 @@ check_children-check_at-requires t c =
     let above : length cs < need_count p = c.requires.depth (omega arith) in
     let within : n < length (via p (length cs)) = omega (arith, c.requires.fan) in
     let part : nodes child ≤ sum (map nodes ts) = rw c.index-children-n.is (nodes_at ts n child c.loop-n-test.true) in
-    let formed : is_formed_at child (length cs + 1) ≡ true = rw c.index-children-n.is (formed_child ts n (length cs + 1) child c.requires.formed c.loop-n-test.true) in (
+    let formed : is_formed_at child (length cs + 1) ≡ true =
+    rw c.index-children-n.is (formed_child ts n (length cs + 1) child c.requires.formed c.loop-n-test.true) in (
       omega (arith, c.decreases, part),
       (
         rw led (choices_more p cs n c.requires.choices above within),
@@ -113,9 +116,19 @@ check_children-joined-tally-requires-clause-nodes t c =
     let child = c.index-children-n.result in
     let rest = drop (n + 1) ts in
     let apart : drop n ts ≡ child ∷ rest = split ts n child c.loop-n-test.true c.index-children-n.is in
-    let so_far : Reached c.args.problem.now c.args.number c.args.choices.now ts c.args.own c.loop-n.tally n (child ∷ rest) =
-    subst (λ rest. Reached c.args.problem.now c.args.number c.args.choices.now ts c.args.own c.loop-n.tally n rest) apart c.loop-n.invariant in
-    omega (arith, so_far.count, c.requires.count, sum-cons (nodes child) (map nodes rest), c.in-Ok.ensures.ok.nodes, length-visits c.args.problem.now child c.with.result)
+    let so_far : Reached c.args.problem.now c.args.number c.args.choices.now ts c.args.own c.loop-n.tally n
+    (child ∷ rest) =
+    subst (λ rest. Reached c.args.problem.now c.args.number c.args.choices.now ts c.args.own
+    c.loop-n.tally n rest) apart c.loop-n.invariant in
+    omega (
+      arith,
+      so_far.count,
+      c.requires.count,
+      sum-cons (nodes child)
+          (map nodes rest),
+      c.in-Ok.ensures.ok.nodes,
+      length-visits c.args.problem.now child c.with.result,
+    )
 
 pub check_children-returns-in-Err-clause-err : goal.check_children-returns-in-Err-clause-err
 unfolding child_choices
@@ -130,7 +143,8 @@ check_children-returns-in-Err-clause-err t c =
     let so_far : Reached p c.args.number cs ts c.args.own c.loop-n.tally n (child ∷ rest) =
     subst (λ rest. Reached p c.args.number cs ts c.args.own c.loop-n.tally n rest) apart c.loop-n.invariant in
     let led : c.with.result ≡ child_choices p cs n = cc in
-    reached_fails p c.args.number cs ts c.args.own c.loop-n.tally n child rest c.in-Err.fault so_far (rw led at c.in-Err.ensures.err)
+    reached_fails p c.args.number cs ts c.args.own c.loop-n.tally n child rest c.in-Err.fault so_far
+    (rw led at c.in-Err.ensures.err)
 
 pub check_children-loop-n-preserved : goal.check_children-loop-n-preserved
 unfolding child_choices
@@ -145,12 +159,18 @@ check_children-loop-n-preserved t c =
     let so_far : Reached p c.args.number cs ts c.args.own c.loop-n.tally n (child ∷ rest) =
     subst (λ rest. Reached p c.args.number cs ts c.args.own c.loop-n.tally n rest) apart c.loop-n.invariant in
     let led : c.with.result ≡ child_choices p cs n = cc in
-    reached_on p c.args.number cs ts c.args.own c.loop-n.tally c.in-Ok.more c.joined-tally.result n child rest so_far (rw led at c.in-Ok.ensures.ok)
-    (record { verdict = c.joined-tally.ensures.verdict; nodes = c.joined-tally.ensures.nodes; few = c.joined-tally.ensures.few })
+    reached_on p c.args.number cs ts c.args.own c.loop-n.tally c.in-Ok.more c.joined-tally.result n child rest so_far
+    (rw led at c.in-Ok.ensures.ok)
+    (record {
+      verdict = c.joined-tally.ensures.verdict;
+      nodes = c.joined-tally.ensures.nodes;
+      few = c.joined-tally.ensures.few;
+    })
 
 pub check_children-returns-clause-ok : goal.check_children-returns-clause-ok
 check_children-returns-clause-ok t c =
     let ts = c.args.children.now in
     let none : drop c.loop-n.n ts ≡ [] = drop_all c.loop-n.n ts (omega arith) in
     reached_end c.args.problem.now c.args.number c.args.choices.now ts c.args.own c.loop-n.tally c.loop-n.n
-    (subst (λ rest. Reached c.args.problem.now c.args.number c.args.choices.now ts c.args.own c.loop-n.tally c.loop-n.n rest) none c.loop-n.invariant)
+    (subst (λ rest. Reached c.args.problem.now c.args.number c.args.choices.now ts c.args.own c.loop-n.tally
+    c.loop-n.n rest) none c.loop-n.invariant)

@@ -12,7 +12,8 @@ use Rattle.bound_certificate.proofs.checker.check.Goals as goal
 pub check_at-requires-clause-formed : goal.check_at-requires-clause-formed
 unfolding is_formed
 check_at-requires-clause-formed c =
-    rw c.new.ensures.value (and_parts (is_formed_at c.args.tree.now 0) (nat_le (branches c.args.tree.now) 4096) c.requires).0
+    rw c.new.ensures.value
+    (and_parts (is_formed_at c.args.tree.now 0) (nat_le (branches c.args.tree.now) 4096) c.requires).0
 
 pub check_at-requires-clause-count : goal.check_at-requires-clause-count
 unfolding is_formed
@@ -25,6 +26,8 @@ pub returns-in-Ok-clause-below : goal.returns-in-Ok-clause-below
 unfolding verdict_of
 returns-in-Ok-clause-below c placement fit =
     let p = c.args.problem.now in
-    let tallied : IsTallied p 0 (visits p c.args.tree.now []) c.in-Ok.tally = rw c.new.ensures.value at c.in-Ok.ensures.ok in
-    let bound : c.in-Ok.tally.verdict.bound ≡ bound_of p (visits p c.args.tree.now []) = ap (λ (verdict : Verdict). verdict.bound) tallied.verdict in
+    let tallied : IsTallied p 0 (visits p c.args.tree.now []) c.in-Ok.tally =
+    rw c.new.ensures.value at c.in-Ok.ensures.ok in
+    let bound : c.in-Ok.tally.verdict.bound ≡ bound_of p (visits p c.args.tree.now []) =
+    ap (λ (verdict : Verdict). verdict.bound) tallied.verdict in
     rw bound (weak_duality p c.args.tree.now placement c.sites-sites.ensures.within tallied.faultless fit)

@@ -30,23 +30,31 @@ unfolding part_verdict
 returns-in-Full c =
     let fits : FitsSigned w128 c.from.result = search rules in
     let part : part_of c.args.tree.now ≡ FullPart = ap part_of c.in-Full.is ∙ part_of-Full in
-    subst (λ (part : Part). valued (to_z w128 (of_z w128 c.from.result)) true ≡ part_verdict c.args.problem.now c.args.choices.now part) (sym part)
+    subst (λ (part : Part). valued
+    (to_z w128 (of_z w128 c.from.result)) true ≡ part_verdict c.args.problem.now c.args.choices.now part) (sym part)
     (ap (λ (value : ℤ). valued value true) (to_z-of_z fits ∙ c.from.ensures ∙ ap pos c.cost_of.ensures.value))
 
 pub returns-in-Dual : goal.returns-in-Dual
 unfolding part_verdict
 returns-in-Dual c =
     let fits : FitsSigned w128 c.dual_value-value.result = search rules in
-    let part : part_of c.args.tree.now ≡ DualPart c.in-Dual.lambda c.in-Dual.mu = ap part_of c.in-Dual.is ∙ part_of-Dual c.in-Dual.lambda c.in-Dual.mu in
-    let value : c.dual_value-value.result ≡ dual_value c.args.problem.now c.args.choices.now c.in-Dual.lambda c.in-Dual.mu =
+    let part : part_of c.args.tree.now ≡ DualPart c.in-Dual.lambda c.in-Dual.mu =
+    ap part_of c.in-Dual.is ∙ part_of-Dual c.in-Dual.lambda c.in-Dual.mu in
+    let value : c.dual_value-value.result ≡ dual_value c.args.problem.now c.args.choices.now c.in-Dual.lambda
+    c.in-Dual.mu =
     rw (c.as_slice.ensures, c.as_slice-in-Dual.ensures) at c.dual_value-value.ensures.value in
-    subst (λ (part : Part). valued (to_z w128 (of_z w128 c.dual_value-value.result)) false ≡ part_verdict c.args.problem.now c.args.choices.now part) (sym part)
+    subst (λ (part : Part). valued
+    (to_z w128 (of_z w128 c.dual_value-value.result)) false ≡ part_verdict c.args.problem.now c.args.choices.now part)
+    (sym part)
     (ap (λ (value : ℤ). valued value false) (to_z-of_z fits ∙ value))
 
 pub dual_value-value-requires-clause-prices : goal.dual_value-value-requires-clause-prices
 dual_value-value-requires-clause-prices c =
-    let part : part_of c.args.tree.now ≡ DualPart c.in-Dual.lambda c.in-Dual.mu = ap part_of c.in-Dual.is ∙ part_of-Dual c.in-Dual.lambda c.in-Dual.mu in
-    let formed = subst (λ (part : Part). is_formed_part (length c.args.choices.now) part ≡ true) part c.requires.formed in
-    let right = subst (λ (part : Part). node_fault c.args.problem.now c.args.choices.now part ≡ None) part c.requires.right in
+    let part : part_of c.args.tree.now ≡ DualPart c.in-Dual.lambda c.in-Dual.mu =
+    ap part_of c.in-Dual.is ∙ part_of-Dual c.in-Dual.lambda c.in-Dual.mu in
+    let formed = subst (λ (part : Part). is_formed_part (length c.args.choices.now) part ≡ true) part
+    c.requires.formed in
+    let right = subst (λ (part : Part). node_fault c.args.problem.now c.args.choices.now part ≡ None) part
+    c.requires.right in
     rw (c.as_slice.ensures, c.as_slice-in-Dual.ensures)
     (dual_prices c.args.problem.now c.args.choices.now c.in-Dual.lambda c.in-Dual.mu c.requires.choices formed right)

@@ -5,4 +5,5 @@ use Rattle.bound_certificate.specs.Placement.{first_with_room, has_room}
 use Rattle.bound_certificate.proofs.completion.first_with_room.Given as goal
 
 abbrev pub invariant-loop-site : goal.invariant-loop-site
-invariant-loop-site l = find (has_room l.problem l.choices) (drop l.site-index l.via) ≡ first_with_room l.problem l.choices
+invariant-loop-site l =
+    find (has_room l.problem l.choices) (drop l.site-index l.via) ≡ first_with_room l.problem l.choices

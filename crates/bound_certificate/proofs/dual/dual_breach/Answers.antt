@@ -9,4 +9,8 @@ unfolding dual_breach
 returns-then-is_breached c =
     let test = is_breached c.args.problem.now c.args.choices.now c.args.lambda.now c.args.mu.now in
     let below : c.loop-site.site < site_count c.args.problem.now = omega arith in
-    record { value = sym (first_below_found test (site_count c.args.problem.now) c.loop-site.site c.loop-site.invariant (sym c.is_breached.ensures ∙ c.if-is_breached.true) below) }
+    record {
+      value = sym
+          (first_below_found test (site_count c.args.problem.now) c.loop-site.site c.loop-site.invariant
+          (sym c.is_breached.ensures ∙ c.if-is_breached.true) below);
+    }

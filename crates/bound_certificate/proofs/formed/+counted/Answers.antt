@@ -18,5 +18,6 @@ branches_up_to-all_branches_up_to-requires t c =
 
 pub branches_up_to-returns : goal.branches_up_to-returns
 branches_up_to-returns t c =
-    let all : c.all_branches_up_to.result ≡ min (sum (map branches (children_of c.args.tree.now))) c.args.limit = rw c.children.ensures.value at c.all_branches_up_to.ensures in
+    let all : c.all_branches_up_to.result ≡ min (sum (map branches (children_of c.args.tree.now))) c.args.limit =
+    rw c.children.ensures.value at c.all_branches_up_to.ensures in
     omega (arith, all, branches-out c.args.tree.now, c.own_branches.ensures.value)

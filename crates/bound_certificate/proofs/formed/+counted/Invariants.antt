@@ -12,4 +12,5 @@ decreases-all_branches_up_to l = 2 * sum (map nodes l.trees.now) + 1
 
 abbrev pub invariant-all_branches_up_to-loop-tree : goal.invariant-all_branches_up_to-loop-tree
 invariant-all_branches_up_to-loop-tree l =
-    (min (l.count + sum (map branches (drop l.tree-index l.trees))) l.limit ≡ min (sum (map branches l.trees)) l.limit) × (l.count ≤ l.limit)
+    (min (l.count + sum (map branches (drop l.tree-index l.trees))) l.limit ≡ min (sum (map branches l.trees)) l.limit)
+    × (l.count ≤ l.limit)

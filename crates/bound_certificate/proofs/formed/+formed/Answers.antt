@@ -17,7 +17,8 @@ are_formed_at-is_formed_at-requires t c =
 
 pub is_formed_at-are_formed_at-requires : goal.is_formed_at-are_formed_at-requires
 is_formed_at-are_formed_at-requires t c =
-    let formed : is_formed_part c.args.depth (part_of c.args.tree.now) ≡ true = sym c.is_formed_part.ensures ∙ c.if-is_formed_part.true in
+    let formed : is_formed_part c.args.depth (part_of c.args.tree.now) ≡ true =
+    sym c.is_formed_part.ensures ∙ c.if-is_formed_part.true in
     rw c.children.ensures.value (
       omega (arith, c.decreases, nodes-out c.args.tree.now),
       λ some. fan_depth c.args.depth (part_of c.args.tree.now) formed (omega (arith, fan-part_of c.args.tree.now)),

@@ -13,4 +13,5 @@ decreases-are_formed_at l = 2 * sum (map nodes l.trees.now) + 1
 
 abbrev pub invariant-are_formed_at-loop-tree : goal.invariant-are_formed_at-loop-tree
 invariant-are_formed_at-loop-tree l =
-    list_all (λ child. child l.depth) (map is_formed_at (drop l.tree-index l.trees)) ≡ list_all (λ child. child l.depth) (map is_formed_at l.trees)
+    list_all (λ child. child l.depth) (map is_formed_at (drop l.tree-index l.trees)) ≡ list_all
+    (λ child. child l.depth) (map is_formed_at l.trees)

@@ -7,7 +7,8 @@ use Rattle.bound_certificate.proofs.formed.own_branches.Goals as goal
 
 pub returns-in-Branch-clause-value : goal.returns-in-Branch-clause-value
 returns-in-Branch-clause-value c =
-    let part : part_of c.args.tree.now ≡ BranchPart (length c.in-Branch.field-0) = ap part_of c.in-Branch.is ∙ part_of-Branch c.in-Branch.field-0 in
+    let part : part_of c.args.tree.now ≡ BranchPart (length c.in-Branch.field-0) =
+    ap part_of c.in-Branch.is ∙ part_of-Branch c.in-Branch.field-0 in
     subst (λ (part : Part). 1 ≡ cond {A = ℕ} (is_branch part) 1 0) (sym part) refl
 
 pub returns-in-Over-clause-value : goal.returns-in-Over-clause-value
@@ -17,12 +18,14 @@ returns-in-Over-clause-value c =
 
 pub returns-in-Hall-clause-value : goal.returns-in-Hall-clause-value
 returns-in-Hall-clause-value c =
-    let part : part_of c.args.tree.now ≡ HallPart c.in-Hall.field-0 = ap part_of c.in-Hall.is ∙ part_of-Hall c.in-Hall.field-0 in
+    let part : part_of c.args.tree.now ≡ HallPart c.in-Hall.field-0 =
+    ap part_of c.in-Hall.is ∙ part_of-Hall c.in-Hall.field-0 in
     subst (λ (part : Part). 0 ≡ cond {A = ℕ} (is_branch part) 1 0) (sym part) refl
 
 pub returns-in-Dual-clause-value : goal.returns-in-Dual-clause-value
 returns-in-Dual-clause-value c =
-    let part : part_of c.args.tree.now ≡ DualPart c.in-Dual.lambda c.in-Dual.mu = ap part_of c.in-Dual.is ∙ part_of-Dual c.in-Dual.lambda c.in-Dual.mu in
+    let part : part_of c.args.tree.now ≡ DualPart c.in-Dual.lambda c.in-Dual.mu =
+    ap part_of c.in-Dual.is ∙ part_of-Dual c.in-Dual.lambda c.in-Dual.mu in
     subst (λ (part : Part). 0 ≡ cond {A = ℕ} (is_branch part) 1 0) (sym part) refl
 
 pub returns-in-Full-clause-value : goal.returns-in-Full-clause-value

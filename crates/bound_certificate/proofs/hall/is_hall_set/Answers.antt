@@ -8,4 +8,5 @@ pub returns-then-not-is_next_name-clause-value : goal.returns-then-not-is_next_n
 unfolding is_hall_set
 returns-then-not-is_next_name-clause-value c =
     let fails = sym c.is_next_name.ensures.value ∙ c.if-not-is_next_name.true in
-    sym (and_right _ _ (all_below_fails (is_next_name c.args.problem.now c.args.depth c.args.names.now) (length c.args.names.now) c.loop-k.k c.loop-k-test.true fails))
+    sym (and_right _ _ (all_below_fails (is_next_name c.args.problem.now c.args.depth c.args.names.now)
+    (length c.args.names.now) c.loop-k.k c.loop-k-test.true fails))

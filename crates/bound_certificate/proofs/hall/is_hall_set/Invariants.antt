@@ -6,4 +6,6 @@ use Rattle.bound_certificate.specs.Problem.{need_count}
 use Rattle.bound_certificate.proofs.hall.is_hall_set.Given as goal
 
 abbrev pub invariant-loop-k : goal.invariant-loop-k
-invariant-loop-k l = (all_below (is_next_name l.problem l.depth l.names) l.k ≡ true) × ((k d : ℕ) → k < l.k → get_or l.names k d < need_count l.problem)
+invariant-loop-k l =
+    (all_below (is_next_name l.problem l.depth l.names) l.k ≡ true) ×
+    ((k d : ℕ) → k < l.k → get_or l.names k d < need_count l.problem)

@@ -7,4 +7,5 @@ use Rattle.bound_certificate.specs.Problem.{via}
 use Rattle.bound_certificate.proofs.hall.is_reached.Given as goal
 
 abbrev pub invariant-loop-need : goal.invariant-loop-need
-invariant-loop-need l = list_any (λ i. has (via l.problem i) l.site) (drop l.need-index l.names) ≡ is_reached l.problem l.names l.site
+invariant-loop-need l =
+    list_any (λ i. has (via l.problem i) l.site) (drop l.need-index l.names) ≡ is_reached l.problem l.names l.site

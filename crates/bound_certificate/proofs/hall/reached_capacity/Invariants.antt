@@ -5,4 +5,5 @@ use Rattle.bound_certificate.specs.Node.{reached_capacity_by}
 use Rattle.bound_certificate.proofs.hall.reached_capacity.Given as goal
 
 abbrev pub invariant-loop-site : goal.invariant-loop-site
-invariant-loop-site l = (l.sum ≡ sum_below (reached_capacity_by l.problem l.names) l.site) × (l.sum ≤ 4294967295 * l.site)
+invariant-loop-site l =
+    (l.sum ≡ sum_below (reached_capacity_by l.problem l.names) l.site) × (l.sum ≤ 4294967295 * l.site)

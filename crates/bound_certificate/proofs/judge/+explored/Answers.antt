@@ -12,16 +12,20 @@ use Rattle.bound_certificate.proofs.Exploring.{first_fault-number, are_explored-
 use Rattle.bound_certificate.proofs.judge.+explored.Goals as goal
 
 pub are_explored-is_explored-requires-clause-formed : goal.are_explored-is_explored-requires-clause-formed
-are_explored-is_explored-requires-clause-formed t c = (is_formed_at-parts c.args.tree.now (length c.args.choices.now) c.requires.formed).0
+are_explored-is_explored-requires-clause-formed t c =
+    (is_formed_at-parts c.args.tree.now (length c.args.choices.now) c.requires.formed).0
 
 pub are_explored-is_explored-requires-clause-right : goal.are_explored-is_explored-requires-clause-right
-are_explored-is_explored-requires-clause-right t c = (node_is_right c.args.problem.now c.args.tree.now c.args.choices.now 0 c.requires.right).0
+are_explored-is_explored-requires-clause-right t c =
+    (node_is_right c.args.problem.now c.args.tree.now c.args.choices.now 0 c.requires.right).0
 
 pub are_explored-returns-then-not-is_explored : goal.are_explored-returns-then-not-is_explored
 are_explored-returns-then-not-is_explored t c =
     sym (are_explored-out c.args.problem.now c.args.rule.best c.args.rule.ceiling c.args.tree.now c.args.choices.now
-    ∙ false_and (is_explored c.args.problem.now c.args.rule.best c.args.rule.ceiling (record { choices = c.args.choices.now; part = part_of c.args.tree.now }))
-    (are_explored c.args.problem.now c.args.rule.best c.args.rule.ceiling (below c.args.problem.now c.args.choices.now 0 (map (visits c.args.problem.now) (children_of c.args.tree.now))))
+    ∙ false_and (is_explored c.args.problem.now c.args.rule.best c.args.rule.ceiling
+    (record { choices = c.args.choices.now; part = part_of c.args.tree.now }))
+    (are_explored c.args.problem.now c.args.rule.best c.args.rule.ceiling
+    (below c.args.problem.now c.args.choices.now 0 (map (visits c.args.problem.now) (children_of c.args.tree.now))))
     (sym c.is_explored.ensures.value ∙ c.if-not-is_explored.true))
 
 pub are_explored-are_children_explored-requires : goal.are_explored-are_children_explored-requires
@@ -40,7 +44,9 @@ are_explored-are_children_explored-requires t c =
             omega (arith, size, fan.1),
             (
               parts.1,
-              first_fault-number c.args.problem.now (0 + 1) 0 (below c.args.problem.now c.args.choices.now 0 (map (visits c.args.problem.now) (children_of c.args.tree.now))) right.1,
+              first_fault-number c.args.problem.now (0 + 1) 0
+                  (below c.args.problem.now c.args.choices.now 0
+                  (map (visits c.args.problem.now) (children_of c.args.tree.now))) right.1,
             ),
           ),
         ),
@@ -56,7 +62,8 @@ are_explored-returns t c =
     let node = is_explored p best ceiling (record { choices = cs; part = part_of c.args.tree.now }) in
     let others = are_explored p best ceiling (below p cs 0 (map (visits p) (children_of c.args.tree.now))) in
     let here : node ≡ true = sym c.is_explored.ensures.value ∙ c.if-not-is_explored.false in
-    let rest : c.are_children_explored.result ≡ others = rw c.children.ensures.value at c.are_children_explored.ensures in
+    let rest : c.are_children_explored.result ≡ others =
+    rw c.children.ensures.value at c.are_children_explored.ensures in
     let whole : are_explored p best ceiling (visits p c.args.tree.now cs) ≡ others =
     are_explored-out p best ceiling c.args.tree.now cs ∙ true_and node others here in
     rest ∙ sym whole
@@ -74,7 +81,8 @@ are_children_explored-are_explored-requires t c =
     let above : length cs < need_count p = c.requires.depth (omega arith) in
     let within : n < length (via p (length cs)) = omega (arith, c.requires.fan) in
     let part : nodes child ≤ sum (map nodes ts) = rw c.index-children-n.is (nodes_at ts n child c.loop-n-test.true) in
-    let formed : is_formed_at child (length cs + 1) ≡ true = rw c.index-children-n.is (formed_child ts n (length cs + 1) child c.requires.formed c.loop-n-test.true) in (
+    let formed : is_formed_at child (length cs + 1) ≡ true =
+    rw c.index-children-n.is (formed_child ts n (length cs + 1) child c.requires.formed c.loop-n-test.true) in (
       omega (arith, c.decreases, part),
       (
         rw led (choices_more p cs n c.requires.choices above within),
@@ -116,7 +124,8 @@ are_children_explored-loop-n-preserved t c =
       (child_right p cs ts n child hand c.loop-n.invariant.0).1,
       sym (child_explored p c.args.rule.best c.args.rule.ceiling cs ts n child hand
           ∙ true_and (are_explored p c.args.rule.best c.args.rule.ceiling (visits p child (child_choices p cs n)))
-          (are_explored p c.args.rule.best c.args.rule.ceiling (below p cs (n + 1) (map (visits p) (drop (n + 1) ts)))) here)
+          (are_explored p c.args.rule.best c.args.rule.ceiling
+          (below p cs (n + 1) (map (visits p) (drop (n + 1) ts)))) here)
           ∙ c.loop-n.invariant.1,
     )
 
@@ -127,5 +136,6 @@ are_children_explored-returns t c =
     let ts = c.args.children.now in
     let none : drop c.loop-n.n ts ≡ [] = drop_all c.loop-n.n ts (omega arith) in
     sym (are_explored-nil p c.args.rule.best c.args.rule.ceiling)
-    ∙ sym (ap (λ rest. are_explored p c.args.rule.best c.args.rule.ceiling (below p cs c.loop-n.n (map (visits p) rest))) none)
+    ∙ sym (ap (λ rest. are_explored p c.args.rule.best c.args.rule.ceiling
+    (below p cs c.loop-n.n (map (visits p) rest))) none)
     ∙ c.loop-n.invariant.1

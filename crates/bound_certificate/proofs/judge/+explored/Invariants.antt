@@ -15,5 +15,7 @@ decreases-are_children_explored l = 2 * sum (map nodes l.children.now) + 1
 abbrev pub invariant-are_children_explored-loop-n : goal.invariant-are_children_explored-loop-n
 invariant-are_children_explored-loop-n l =
     (first_fault l.problem 0 (below l.problem l.choices l.n (map (visits l.problem) (drop l.n l.children))) ≡ None)
-    × (are_explored l.problem l.rule.best l.rule.ceiling (below l.problem l.choices l.n (map (visits l.problem) (drop l.n l.children)))
-    ≡ are_explored l.problem l.rule.best l.rule.ceiling (below l.problem l.choices 0 (map (visits l.problem) l.children)))
+    × (are_explored l.problem l.rule.best l.rule.ceiling
+    (below l.problem l.choices l.n (map (visits l.problem) (drop l.n l.children)))
+    ≡ are_explored l.problem l.rule.best l.rule.ceiling
+    (below l.problem l.choices 0 (map (visits l.problem) l.children)))

@@ -9,4 +9,5 @@ unfolding is_chosen
 returns-then-not-has c =
     let below : c.loop-i.i < length c.args.choices.now = omega arith in
     let fails : is_chosen c.args.problem.now c.args.choices.now c.loop-i.i ≡ false = grind (arith, common_steps) in
-    sym (all_below_fails (is_chosen c.args.problem.now c.args.choices.now) (length c.args.choices.now) c.loop-i.i below fails)
+    sym (all_below_fails (is_chosen c.args.problem.now c.args.choices.now)
+    (length c.args.choices.now) c.loop-i.i below fails)

@@ -19,15 +19,19 @@ returns-in-Some c = record {
   found = let above : length c.args.choices.now < need_count c.args.problem.now = grind (arith, nat_tests) in
       let crowd : IsCrowd c.args.problem.now c.args.choices.now c.in-Some.names = c.in-Some.ensures.crowd in
       rw c.in_ok-leaf.ensures.leaf
-      (hall_leaf c.args.problem.now c.args.choices.now c.in-Some.names c.args.progress.now c.sites-sites.ensures.within above c.requires.room crowd);
+      (hall_leaf c.args.problem.now c.args.choices.now c.in-Some.names c.args.progress.now
+      c.need_count.ensures.within above c.requires.room crowd);
 }
 
 pub returns : goal.returns
 returns c = record {
   found = let p = c.args.problem.now in
       let above : length c.args.choices.now < need_count p = grind (arith, nat_tests) in
-      let dual : IsDual p c.args.choices.now c.in_ok-prices.prices.lambda c.in_ok-prices.prices.mu = rw c.as_slice.ensures.value at c.in_ok-prices.ensures.dual in
-      let closed : (c.args.progress.now.left == 0 || reaches c.args.progress.now.cost (Some (dual_value p c.args.choices.now c.in_ok-prices.prices.lambda c.in_ok-prices.prices.mu))) ≡ true =
+      let dual : IsDual p c.args.choices.now c.in_ok-prices.prices.lambda c.in_ok-prices.prices.mu =
+      rw c.as_slice.ensures.value at c.in_ok-prices.ensures.dual in
+      let closed : (c.args.progress.now.left == 0 || reaches c.args.progress.now.cost
+      (Some (dual_value p c.args.choices.now c.in_ok-prices.prices.lambda c.in_ok-prices.prices.mu))) ≡ true =
       sym (rw c.as_slice-2.ensures.value at c.is_closed.ensures.value) ∙ c.if-not-is_closed.false in
-      dual_leaf p c.args.choices.now c.in_ok-prices.prices.lambda c.in_ok-prices.prices.mu c.args.progress.now c.sites-sites.ensures.within above c.requires.room dual closed;
+      dual_leaf p c.args.choices.now c.in_ok-prices.prices.lambda c.in_ok-prices.prices.mu c.args.progress.now
+      c.need_count.ensures.within above c.requires.room dual closed;
 }

@@ -5,4 +5,5 @@ use Rattle.placement_search.proofs.loads.Loads.choices.Given as goal
 
 abbrev pub invariant-loop-need : goal.invariant-loop-need
 invariant-loop-need l =
-    (l.choices ≡ take l.need l.self.sites) × (length l.self.sites ≡ 64) × (l.need-end ≡ need_count l.problem) × (need_count l.problem ≤ 64)
+    (l.choices ≡ take l.need l.self.sites) × (length l.self.sites ≡ 64) × (l.need-end ≡ need_count l.problem) ×
+    (need_count l.problem ≤ 64)

@@ -1,6 +1,0 @@
-use Rattle.std.proofs.Common.{rules}
-use Rattle.bound_certificate.proofs.ByteParts.{byte_cut}
-use Rattle.bound_certificate.proofs.node_bytes.read_between.Goals as goal
-
-pub returns-then-is_empty : goal.returns-then-is_empty
-returns-then-is_empty c = byte_cut c.args.least c.args.most c.args.bytes.now c.requires (search rules)

@@ -1,0 +1,13 @@
+pub mod Bytes
+pub mod Text
+pub mod ReadBytes
+pub mod ReadText
+pub mod NodeHead
+pub mod Parts
+pub mod Numeral
+pub mod Reading
+pub mod ReadNode
+pub mod ReadTree
+pub mod Cursor
+pub mod NodeLines
+pub mod TextEnds
