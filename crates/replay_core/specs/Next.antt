@@ -65,7 +65,9 @@ pub record ManyStale (restarts stale : ℕ) (accounts : List Account) : Type 0 w
 
 -- at most one of the limits is passed, and by one
 abbrev pub IsNear : ℕ → ℕ → List Account → Type 0
-IsNear restarts stale accounts = NoneSpent restarts stale accounts ⊎ (((job : ℕ) × OneSpent restarts stale accounts job) ⊎ ManyStale restarts stale accounts)
+IsNear restarts stale accounts =
+    NoneSpent restarts stale accounts
+    ⊎ (((job : ℕ) × OneSpent restarts stale accounts job) ⊎ ManyStale restarts stale accounts)
 
 -- a start is wanted for the job
 pub record MayStart (b : Book) (job : ℕ) : Type 0 where
