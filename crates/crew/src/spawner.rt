@@ -45,4 +45,7 @@ pub trait Spawner {
     fn stop(&mut self, ticket: u32)
         requires out { (state self.old).is_out ticket ≡ true }
         ensures stopped { Leaves ticket (Entry.Stopped ticket) (state self.old) (state self.new) };
+
+    /// Each ticket that is out was issued.
+    ghost known: { (crew : Self) (t : ℕ) → (state crew).is_out t ≡ true → t < (state crew).issued };
 }

@@ -1,7 +1,7 @@
 -- What a call keeps, at each entry.
 use Rattle.std.proofs.Common.{◌≡◌, ◌≢◌, ℕ, ◌+◌, ◌<◌, ◌&&◌, not, Bool, true, false, cond, List, [], ◌∷◌, ◌++◌, Option, None, Some, is_some, is_none, length, length-append, refl, sym, ◌∙◌, ap, subst, arith}
 use Rattle.std.proofs.lemmas.Bool.{ne_eqb, eq-eqb, true≢false}
-use Rattle.crew.specs.Log.{Entry, told}
+use Rattle.crew.specs.Log.{Entry, told, pieces_in}
 use Rattle.crew.specs.Log.Entry.{Started, StartFailed, Fed, FeedFailed, Sealed, Reply, Died, Stopped}
 use Rattle.replay_core.specs.Attempts.{attempt, job_of, without, ticket_of}
 use Rattle.replay_core.specs.Book.{Book, new_account, is_done, with_account, is_now_done, ticket, after_started, after_start_failed, after_bad, after_stale}
@@ -15,7 +15,7 @@ use Rattle.replay_core.specs.declared.bad.Kind.TheVariants as kinds
 use Rattle.replay_core.proofs.Attempts.{without-none, length-without, job-known, attempts-without, ticket-job}
 use Rattle.replay_core.proofs.Kept.{bad-kept, stale-kept, first-alone-kept, first-rival-kept, undone}
 use Rattle.replay_supervisor.specs.Jobs.{Work}
-use Rattle.replay_supervisor.specs.Reading.{read, accepted, events_in, pieces_in}
+use Rattle.replay_supervisor.specs.Reading.{read, accepted, events_in}
 use Rattle.replay_supervisor.specs.Steps.{Plan, moment, IsDraw, IsWindowed, moment_after_reply, stopping, open_jobs}
 use Rattle.replay_supervisor.specs.Steps.Moment.{Idle, Feeding, Stopping}
 use Rattle.replay_supervisor.specs.Matches.{Matches}

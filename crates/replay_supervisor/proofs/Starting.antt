@@ -1,7 +1,7 @@
 -- The start and the end of a call.
 use Rattle.std.proofs.Common.{◌≡◌, ℕ, zero, suc, ◌<◌, false, inl, List, [], ◌∷◌, None, Ok, Err, is_some, replicate, length, refl, sym, ◌∙◌, ap, subst, arith}
 use Rattle.std.proofs.Math.ListN.{length-replicate}
-use Rattle.crew.specs.Log.{Entry, told}
+use Rattle.crew.specs.Log.{Entry, told, pieces_in}
 use Rattle.crew.specs.Log.Entry.{Stopped}
 use Rattle.crew.specs.Crew.{CrewState}
 use Rattle.replay_core.specs.Attempts.{is_out}
@@ -16,7 +16,7 @@ use Rattle.replay_supervisor.specs.Counted.{RoseBy, crew_faults}
 use Rattle.replay_supervisor.specs.Jobs.{JobsState, Standing}
 use Rattle.replay_supervisor.specs.Matches.{Matches}
 use Rattle.replay_supervisor.specs.Outcome.{IsUnspent, Stops, Supervised}
-use Rattle.replay_supervisor.specs.Reading.{read, accepted, bad_in, stale_in, drawn_in, events_in, pieces_in}
+use Rattle.replay_supervisor.specs.Reading.{read, accepted, bad_in, stale_in, drawn_in, events_in}
 use Rattle.replay_supervisor.specs.Steps.{Plan, moment, with_stops}
 use Rattle.replay_supervisor.specs.Steps.Moment.{Idle}
 use Rattle.replay_supervisor.specs.Stopping.{IsStopped}

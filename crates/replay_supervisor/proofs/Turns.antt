@@ -3,7 +3,7 @@ use Rattle.std.proofs.Common.{◌≡◌, ℕ, ◌+◌, ◌≤◌, ◌<◌, ◌==
 use Rattle.std.proofs.lemmas.Bool.{cases_Bool, cases_lt, eq-eqb, eqb-true, true≢false}
 use Rattle.std.proofs.lemmas.Option.{none-some, slice_get_within, slice_get-get_or, get_or_from_slice_get}
 use Rattle.std.proofs.lemmas.Grind.{common_steps}
-use Rattle.crew.specs.Log.{Entry}
+use Rattle.crew.specs.Log.{Entry, pieces_in}
 use Rattle.crew.specs.Log.Entry.{Started, StartFailed, Fed, FeedFailed, Sealed, Reply, Died, Stopped}
 use Rattle.crew.specs.Crew.{CrewState, Dies, Fails, Joins, Leaves, Notes}
 use Rattle.crew.specs.Crew.{Sealed as Sealed_by, Fed as Fed_by}
@@ -18,7 +18,7 @@ use Rattle.replay_core.specs.Next.{MayStart, MustWait}
 use Rattle.replay_core.proofs.Attempts.{without-none, job-nil, job-cons, out-without, out-job, job-known, attempts-without, ticket-job}
 use Rattle.replay_core.specs.Kept.{IsBook, AreAttempts}
 use Rattle.replay_supervisor.specs.Jobs.{JobsState, Standing, Stays, Took, TookOne, Work}
-use Rattle.replay_supervisor.specs.Reading.{read, accepted, pieces_in, with_reply}
+use Rattle.replay_supervisor.specs.Reading.{read, accepted, with_reply}
 use Rattle.replay_supervisor.specs.Agrees.{Agrees}
 use Rattle.replay_supervisor.specs.Steps.{Plan, Moment}
 use Rattle.replay_supervisor.specs.Steps.Moment.{Idle}

@@ -1,6 +1,6 @@
 -- What a call keeps: the crew, the jobs, the book and the log tell one story.
 use Rattle.std.specs.Prelude.{◌≡◌, ◌⊎◌, ℕ, ◌+◌, ◌≤◌, ◌==◌, ◌&&◌, not, false, List, [], take, Some, Result, Ok, Err, is_some, length}
-use Rattle.crew.specs.Log.{Entry, told}
+use Rattle.crew.specs.Log.{Entry, told, pieces_in}
 use Rattle.crew.specs.Crew.{CrewState, Fails, Leaves}
 use Rattle.crew.specs.declared.event.CrewStop.{CrewStop}
 use Rattle.crew.specs.declared.event.CrewStop.TheVariants as stops
@@ -11,7 +11,7 @@ use Rattle.replay_core.specs.Next.{AllDone, IsNear, ManyStale, NoneSpent, OneSpe
 use Rattle.replay_supervisor.specs.declared.stop.Stop.{Stop}
 use Rattle.replay_supervisor.specs.declared.stop.Stop.TheVariants as why
 use Rattle.replay_supervisor.specs.Jobs.{JobsState, Places, Standing}
-use Rattle.replay_supervisor.specs.Reading.{read, accepted, bad_in, drawn_in, events_in, pieces_in}
+use Rattle.replay_supervisor.specs.Reading.{read, accepted, bad_in, drawn_in, events_in}
 use Rattle.replay_supervisor.specs.Steps.{Plan, Moment, moment, AreSteps, IsBeforeReply, IsLog, IsWindowed}
 use Rattle.replay_supervisor.specs.Matches.{Matches}
 use Rattle.replay_supervisor.specs.Counted.{RoseBy, crew_faults}

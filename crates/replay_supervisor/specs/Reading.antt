@@ -1,7 +1,7 @@
 -- What a log, the newest entry first, says of tickets and jobs. The log is the part that one call appended,
 -- at whose start no ticket was out.
 use Rattle.std.specs.Prelude.{ℕ, ◌+◌, ◌==◌, ◌&&◌, not, Bool, true, false, List, [], ◌∷◌, ◌++◌, Option, None, Some, is_some, is_none, if◌then◌else◌, unwrap_or, replicate, slice_set, slice_index_or, flat_map, IsTrue}
-use Rattle.crew.specs.Log.{Entry}
+use Rattle.crew.specs.Log.{Entry, job_bytes}
 use Rattle.crew.specs.Log.Entry.{Started, StartFailed, Fed, FeedFailed, Sealed, Reply, Died, Stopped}
 use Rattle.replay_core.specs.Attempts.{attempt, without, job_of, is_out, wanted}
 use Rattle.replay_core.specs.Book.{no_bad, more}
@@ -120,25 +120,6 @@ is_drawing (Stopped t) = false
 unfoldable pub drawn_in : List Entry → ℕ
 drawn_in [] = 0
 drawn_in (entry ∷ before) = (if is_drawing entry then 1 else 0) + drawn_in before
-
--- the pieces that were fed to a ticket, in order
-abbrev pub with_piece : List (List ℕ) → ℕ → Entry → List (List ℕ)
-with_piece pieces ticket (Fed t piece) = if t == ticket then pieces ++ piece ∷ [] else pieces
-with_piece pieces ticket (Started t) = pieces
-with_piece pieces ticket (StartFailed t) = pieces
-with_piece pieces ticket (FeedFailed t) = pieces
-with_piece pieces ticket (Sealed t) = pieces
-with_piece pieces ticket (Reply t bytes) = pieces
-with_piece pieces ticket (Died t) = pieces
-with_piece pieces ticket (Stopped t) = pieces
-
-unfoldable pub pieces_in : List Entry → ℕ → List (List ℕ)
-pieces_in [] ticket = []
-pieces_in (entry ∷ before) ticket = with_piece (pieces_in before ticket) ticket entry
-
--- the bytes that were fed to a ticket
-abbrev pub job_bytes : List Entry → ℕ → List ℕ
-job_bytes log ticket = flat_map (λ piece. piece) (pieces_in log ticket)
 
 -- whether a reply of a ticket, by its job if it is out, is the first good one of its job
 abbrev pub is_first_good : Work → Reading → List ℕ → Option ℕ → Bool

@@ -1,11 +1,11 @@
 -- Which logs a call writes.
 use Rattle.std.specs.Prelude.{◌≡◌, ℕ, ◌+◌, ◌*◌, ◌<◌, ◌≤◌, ◌&&◌, min, List, [], ◌∷◌, ◌++◌, Option, Some, None, is_none, if◌then◌else◌, length, count_by}
-use Rattle.crew.specs.Log.{Entry}
+use Rattle.crew.specs.Log.{Entry, pieces_in}
 use Rattle.crew.specs.Log.Entry.{Started, StartFailed, Fed, FeedFailed, Sealed, Reply, Died, Stopped}
 use Rattle.replay_core.specs.Attempts.{job_of, without, ticket_of}
 use Rattle.replay_core.specs.declared.attempt.Attempt.{Attempt}
 use Rattle.replay_supervisor.specs.Jobs.{Places, Work}
-use Rattle.replay_supervisor.specs.Reading.{Reading, read, wanted_after, accepted, drawn_in, events_in, pieces_in}
+use Rattle.replay_supervisor.specs.Reading.{Reading, read, wanted_after, accepted, drawn_in, events_in}
 
 -- the jobs, the first ticket, how many tickets may be out together, and how many bad attempts a job may have
 pub record Plan : Type 0 where
