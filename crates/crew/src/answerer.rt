@@ -12,7 +12,8 @@ pub enum AnswerStop {
     Memory,
 }
 
-/// Answers jobs. Which bytes are answers to which jobs never changes, nor whether that is told.
+/// Answers jobs. Which bytes are answers to which jobs never changes, nor which jobs have none, nor whether these are
+/// told.
 pub trait Answerer {
     /// Whether the answers are told, and the count of faults.
     ghost state: { Self → AnswerState };
@@ -20,12 +21,16 @@ pub trait Answerer {
     /// Which bytes are answers to the bytes of a job.
     ghost answers: { Self → List ℕ → List ℕ → Type 0 };
 
-    /// Makes `out` an answer to the job. After a stop `out` is empty. `Fault` comes only where the count of faults
-    /// rose in the call.
+    /// Which jobs have no answer.
+    ghost refuses: { Self → List ℕ → Type 0 };
+
+    /// Makes `out` an answer to the job. After a stop `out` is empty. `Fault` comes only where the job has no answer,
+    /// and where the count of faults rose in the call.
     fn answer(&mut self, job: &[u8], out: &mut Vec<u8>) -> Result<(), AnswerStop>
         ensures answered { OnOk result ((state self.old).is_told ≡ true → answers self.old job.now out.new.items) }
+        ensures refused { IsErrOf result AnswerStop.Fault → (state self.old).is_told ≡ true → refuses self.old job.now }
         ensures empty { OnErr result (out.new.items ≡ []) }
-        ensures stays { SameAnswers (answers self.old) (answers self.new) }
+        ensures stays { SameAnswers (answers self.old) (answers self.new) (refuses self.old) (refuses self.new) }
         ensures told { (state self.new).is_told ≡ (state self.old).is_told }
         ensures later { (state self.old).faults ≤ (state self.new).faults }
         ensures cause { IsErrOf result AnswerStop.Fault → Rose (state self.old).faults (state self.new).faults };

@@ -1,6 +1,7 @@
 //! The log as a crew keeps it, the oldest entry first.
-ghost use Rattle.std.specs.Prelude.{◌≡◌, ◌+◌, ◌≤◌, ◌<◌, ◌∷◌, [], length, OnOk, OnErr};
-ghost use Rattle.crew.specs.Kept.{LogState, entry_of, log_of};
+ghost use Rattle.std.specs.Prelude.{◌≡◌, ◌+◌, ◌≤◌, ◌<◌, ◌∷◌, [], length, IfOk, OnOk};
+ghost use Rattle.crew.specs.Kept.{entry_of, log_of};
+ghost use Rattle.crew.specs.Log.{Entry};
 
 use mon_io::Memory;
 use std::alloc::Global;
@@ -25,6 +26,28 @@ pub enum LogEntry {
     Died { ticket: u32 },
     /// The child was ended.
     Stopped { ticket: u32 },
+}
+
+impl LogEntry {
+    /// The entry of a feed, with a copy of the piece.
+    pub fn fed(alloc: Global, ticket: u32, piece: &[u8]) -> Result<LogEntry, Memory>
+        ensures entry { IfOk result (λ entry. entry_of entry ≡ Entry.Fed ticket piece.now) }
+    {
+        match piece.to_vec(alloc) {
+            Ok(piece) => Ok(LogEntry::Fed { ticket, piece }),
+            Err(_) => Err(Memory),
+        }
+    }
+
+    /// The entry of a reply, with a copy of its bytes.
+    pub fn reply(alloc: Global, ticket: u32, bytes: &[u8]) -> Result<LogEntry, Memory>
+        ensures entry { IfOk result (λ entry. entry_of entry ≡ Entry.Reply ticket bytes.now) }
+    {
+        match bytes.to_vec(alloc) {
+            Ok(bytes) => Ok(LogEntry::Reply { ticket, bytes }),
+            Err(_) => Err(Memory),
+        }
+    }
 }
 
 /// The entries of a log, with room for more. Clauses see the newest first.
