@@ -1,10 +1,11 @@
 -- The marks, one more, one sealed and one fewer.
 use Rattle.std.proofs.Common.{◌≡◌, ℕ, zero, suc, ◌+◌, ◌≤◌, ◌<◌, ◌==◌, ◌||◌, ◌&&◌, not, Bool, true, false, inl, inr, List, [], ◌∷◌, ◌++◌, length, refl, sym, ◌∙◌, ap, subst, arith, rules, one-add}
-use Rattle.std.specs.Prelude.{position, remove, slice_set, Option, IsSome, Some, None, cond}
+use Rattle.std.specs.Prelude.{filter, slice_get, position, remove, slice_set, Option, IsSome, Some, None, cond}
 use Rattle.std.specs.List.{position_or_len}
 use Rattle.std.proofs.lemmas.Bool.{cases_Bool, eqb-true, eq-eqb, ne_eqb, lt-ltb, true≢false}
+use Rattle.std.proofs.lemmas.List.{length-map, map-append}
 use Rattle.std.proofs.lemmas.Option.{same_Some}
-use Rattle.roster.specs.Roster.{AreMarks, is_out, is_sealed, mark, ticket_at}
+use Rattle.roster.specs.Roster.{AreMarks, is_out, is_sealed, mark, ticket_at, tickets}
 use Rattle.roster.specs.declared.mark.Mark.{Mark}
 
 or_swap : (a b c : Bool) → (a || (b || c)) ≡ (b || (a || c))
@@ -209,3 +210,48 @@ out_first marks some = out_at marks 0 some
 pub first_issued : (next : ℕ) (marks : List Mark) → 0 < length marks → AreMarks next marks → ticket_at marks 0 < next
 first_issued next [] some h = absurd (omega (arith, some))
 first_issued next (m ∷ marks) some h = h.0
+
+-- the tickets in the order of their starts
+pub tickets_count : (marks : List Mark) → length (tickets marks) ≡ length marks
+unfolding tickets
+tickets_count marks = length-map marks (λ (m : Mark). m.ticket)
+
+pub tickets_push : (next : ℕ) (marks : List Mark) → tickets (marks ++ mark next false ∷ []) ≡ tickets marks ++ next ∷ []
+unfolding tickets
+tickets_push next marks = map-append (λ (m : Mark). m.ticket) marks (mark next false ∷ [])
+
+pub tickets_first : (marks : List Mark) → 0 < length marks → slice_get (tickets marks) 0 ≡ Some (ticket_at marks 0)
+unfolding tickets
+tickets_first [] some = absurd (omega (arith, some))
+tickets_first (m ∷ marks) some = refl
+
+pub tickets_set : (marks : List Mark) (i : ℕ) (x : Mark) → i < length marks → x.ticket ≡ ticket_at marks i → tickets (slice_set marks i x) ≡ tickets marks
+unfolding tickets
+tickets_set [] i x below same = absurd (omega (arith, below))
+tickets_set (m ∷ marks) zero x below same = ap (λ (t : ℕ). t ∷ tickets marks) same
+tickets_set (m ∷ marks) (suc i) x below same = ap (λ (ts : List ℕ). m.ticket ∷ ts) (tickets_set marks i x (omega (arith, below)) same)
+
+-- a ticket that isn't out is none of them
+none_filtered : (marks : List Mark) (t : ℕ) → is_out marks t ≡ false → filter (λ s. not (s == t)) (tickets marks) ≡ tickets marks
+unfolding tickets
+none_filtered [] t h = refl
+none_filtered (m ∷ marks) t h =
+    let parts = or_false (t == m.ticket) (is_out marks t) (sym (out_cons m marks t) ∙ h) in
+    let apart : (m.ticket == t) ≡ false = ne_eqb m.ticket t (λ e. true≢false (sym (eq-eqb t m.ticket (sym e)) ∙ parts.0)) in
+    ap (λ (b : Bool). cond (not b) (m.ticket ∷ filter (λ s. not (s == t)) (tickets marks)) (filter (λ s. not (s == t)) (tickets marks))) apart
+    ∙ ap (λ (ts : List ℕ). m.ticket ∷ ts) (none_filtered marks t parts.1)
+
+pub tickets_remove : (next : ℕ) (marks : List Mark) (i : ℕ) → i < length marks → AreMarks next marks → tickets (remove marks i) ≡ filter (λ t. not (t == ticket_at marks i)) (tickets marks)
+unfolding tickets
+tickets_remove next [] i below h = absurd (omega (arith, below))
+tickets_remove next (m ∷ marks) zero below h =
+    sym (ap (λ (b : Bool). cond (not b) (m.ticket ∷ filter (λ s. not (s == m.ticket)) (tickets marks)) (filter (λ s. not (s == m.ticket)) (tickets marks))) (eq-eqb m.ticket m.ticket refl)
+    ∙ none_filtered marks m.ticket h.1)
+tickets_remove next (m ∷ marks) (suc i) below h =
+    let less : i < length marks = omega (arith, below) in
+    let apart : (m.ticket == ticket_at marks i) ≡ false = elim (cases_Bool (m.ticket == ticket_at marks i)) [
+      | inl here ↦ absurd (true≢false (sym (eq-eqb m.ticket m.ticket refl) ∙ front_apart next m marks i m.ticket less h here))
+      | inr apart ↦ apart
+    ] in
+    ap (λ (ts : List ℕ). m.ticket ∷ ts) (tickets_remove next marks i less h.2)
+    ∙ sym (ap (λ (b : Bool). cond (not b) (m.ticket ∷ filter (λ s. not (s == ticket_at marks i)) (tickets marks)) (filter (λ s. not (s == ticket_at marks i)) (tickets marks))) apart)

@@ -1,5 +1,5 @@
 -- The tickets that are out, in the order of their starts, each with whether its job is whole.
-use Rattle.std.specs.Prelude.{◌≡◌, ℕ, ◌<◌, ◌==◌, ◌&&◌, Bool, true, false, List, [], ◌∷◌, slice_index_or}
+use Rattle.std.specs.Prelude.{◌≡◌, ℕ, ◌<◌, ◌==◌, ◌&&◌, Bool, true, false, List, [], ◌∷◌, map, slice_index_or}
 use Rattle.std.specs.List.{list_any}
 use Rattle.roster.specs.declared.mark.Mark.{Mark}
 
@@ -26,6 +26,10 @@ is_sealed marks ticket = list_any (λ m. ticket == m.ticket && m.is_sealed) mark
 -- the ticket at a place, 0 past the end
 abbrev pub ticket_at : List Mark → ℕ → ℕ
 ticket_at marks place = (slice_index_or marks place (mark 0 false)).ticket
+
+-- the tickets that are out, in the order of their starts
+unfoldable pub tickets : List Mark → List ℕ
+tickets marks = map (λ m. m.ticket) marks
 
 -- each ticket was issued, and none of them twice
 abbrev pub AreMarks : ℕ → List Mark → Type 0

@@ -1,6 +1,6 @@
 //! The tickets that are out, in the order of their starts.
-ghost use Rattle.std.specs.Prelude.{◌≡◌, ℕ, ◌+◌, ◌-◌, ◌^◌, ◌<◌, ◌==◌, ◌||◌, ◌&&◌, not, true, false, OnOk, length};
-ghost use Rattle.roster.specs.Roster.{AreIssued, is_out, is_sealed, no_marks, ticket_at};
+ghost use Rattle.std.specs.Prelude.{◌≡◌, ℕ, ◌+◌, ◌-◌, ◌^◌, ◌<◌, ◌==◌, ◌||◌, ◌&&◌, not, true, false, [], ◌∷◌, ◌++◌, Some, OnOk, filter, length, slice_get};
+ghost use Rattle.roster.specs.Roster.{AreIssued, is_out, is_sealed, no_marks, ticket_at, tickets};
 
 use crate::Mark;
 use crate::mark::{has, place_of};
@@ -49,8 +49,10 @@ impl Roster {
     }
 
     /// How many tickets are out.
+    #[tactic(auto, using(crate::proofs::Marks::tickets_count))]
     pub fn len(&self) -> usize
         ensures value { result ≡ length self.now.marks }
+        ensures order { result ≡ length (tickets self.now.marks) }
         ensures bound { result < 2 ^ 63 }
     {
         self.marks.len()
@@ -89,7 +91,7 @@ impl Roster {
     }
 
     /// Issues the next ticket, which is out from then on and not sealed. There is room for it.
-    #[tactic(auto, using(crate::proofs::Marks::out_issued, crate::proofs::Marks::marks_push, crate::proofs::Marks::out_push, crate::proofs::Marks::sealed_push))]
+    #[tactic(auto, using(crate::proofs::Marks::out_issued, crate::proofs::Marks::marks_push, crate::proofs::Marks::out_push, crate::proofs::Marks::sealed_push, crate::proofs::Marks::tickets_push))]
     pub fn join(&mut self)
         requires small { self.old.issued < 2 ^ 32 - 1 }
         requires room { length self.old.marks < self.old.room }
@@ -98,6 +100,7 @@ impl Roster {
         ensures out { (t : ℕ) → is_out self.new.marks t ≡ (t == self.old.issued || is_out self.old.marks t) }
         ensures sealed { (t : ℕ) → is_sealed self.new.marks t ≡ (not (t == self.old.issued) && is_sealed self.old.marks t) }
         ensures known { AreIssued self.new }
+        ensures order { tickets self.new.marks ≡ tickets self.old.marks ++ self.old.issued ∷ [] }
     {
         self.marks.push_reserved(Mark {
             ticket: self.issued,
@@ -118,19 +121,20 @@ impl Roster {
     }
 
     /// The ticket that was started first of those that are out.
-    #[tactic(auto, using(crate::proofs::Marks::some_out, crate::proofs::Marks::out_first, crate::proofs::Marks::first_issued))]
+    #[tactic(auto, using(crate::proofs::Marks::some_out, crate::proofs::Marks::out_first, crate::proofs::Marks::first_issued, crate::proofs::Marks::tickets_first))]
     pub fn oldest(&self) -> u32
         requires some { (t : ℕ) × (is_out self.now.marks t ≡ true) }
         ensures some { 0 < length self.now.marks }
         ensures value { result ≡ ticket_at self.now.marks 0 }
         ensures out { is_out self.now.marks result ≡ true }
         ensures issued { result < self.now.issued }
+        ensures first { slice_get (tickets self.now.marks) 0 ≡ Some result }
     {
         self.marks[0].ticket
     }
 
     /// Seals the ticket at a place.
-    #[tactic(auto, using(crate::proofs::Marks::out_issued, crate::proofs::Marks::marks_set, crate::proofs::Marks::out_set, crate::proofs::Marks::sealed_set))]
+    #[tactic(auto, using(crate::proofs::Marks::out_issued, crate::proofs::Marks::marks_set, crate::proofs::Marks::out_set, crate::proofs::Marks::sealed_set, crate::proofs::Marks::tickets_set))]
     pub fn seal(&mut self, place: usize)
         requires bound { place < length self.old.marks }
         ensures issued { self.new.issued ≡ self.old.issued }
@@ -138,12 +142,13 @@ impl Roster {
         ensures out { (t : ℕ) → is_out self.new.marks t ≡ is_out self.old.marks t }
         ensures sealed { (t : ℕ) → is_sealed self.new.marks t ≡ (t == ticket_at self.old.marks place || is_sealed self.old.marks t) }
         ensures known { AreIssued self.new }
+        ensures order { tickets self.new.marks ≡ tickets self.old.marks }
     {
         self.marks[place].is_sealed = true;
     }
 
     /// Takes out the ticket at a place: it is out no longer.
-    #[tactic(auto, using(crate::proofs::Marks::out_issued, crate::proofs::Marks::marks_remove, crate::proofs::Marks::out_remove, crate::proofs::Marks::sealed_remove))]
+    #[tactic(auto, using(crate::proofs::Marks::out_issued, crate::proofs::Marks::marks_remove, crate::proofs::Marks::out_remove, crate::proofs::Marks::sealed_remove, crate::proofs::Marks::tickets_remove))]
     pub fn leave(&mut self, place: usize)
         requires bound { place < length self.old.marks }
         ensures issued { self.new.issued ≡ self.old.issued }
@@ -151,6 +156,7 @@ impl Roster {
         ensures out { (t : ℕ) → is_out self.new.marks t ≡ (not (t == ticket_at self.old.marks place) && is_out self.old.marks t) }
         ensures sealed { (t : ℕ) → is_sealed self.new.marks t ≡ (not (t == ticket_at self.old.marks place) && is_sealed self.old.marks t) }
         ensures known { AreIssued self.new }
+        ensures order { tickets self.new.marks ≡ filter (λ t. not (t == ticket_at self.old.marks place)) (tickets self.old.marks) }
     {
         self.marks.remove(place);
     }
