@@ -1,0 +1,4 @@
+pub mod Log
+pub mod Crew
+pub mod Answers
+pub mod Kept

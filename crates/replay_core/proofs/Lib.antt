@@ -1,0 +1,10 @@
+pub mod Inside
+pub mod Below
+pub mod Sums
+pub mod Attempts
+pub mod Books
+pub mod Starts
+pub mod Kept
+pub mod Windows
+pub mod Turned
+pub mod AfterCalls
