@@ -2,3 +2,4 @@ pub mod Behind
 pub mod Endings
 mod Lengths
 pub mod Telling
+pub mod Topologies

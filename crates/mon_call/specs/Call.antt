@@ -3,7 +3,7 @@ use Rattle.std.specs.Prelude.{◌≡◌, ◌⊎◌, ◌≤◌, ℕ, Bool, true, 
 use Rattle.mon_io.specs.Faults.{Rose}
 use Rattle.mon_io.specs.Inputs.{InputState, Picked, PickedNothing}
 use Rattle.mon_io.specs.Sink.{SinkState, Grew, GrewByPart}
-use Rattle.bound_certificate.specs.declared.fault.CertFault.{CertFault}
+use Rattle.certificate_text.specs.declared.fault.CertFault.{CertFault}
 use Rattle.routed_trace.specs.declared.fault.TraceFault.{TraceFault}
 use Rattle.topology.specs.declared.fault.TopologyFault.{TopologyFault}
 use Rattle.mon_call.specs.declared.status.Input.{Input}

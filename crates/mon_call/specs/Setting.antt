@@ -1,5 +1,5 @@
 -- The numbers of a sketch, as words give them.
-use Rattle.std.specs.Prelude.{◌&&◌, nat_le, Bool, true, false}
+use Rattle.std.specs.Prelude.{◌&&◌, nat_le, Bool, true}
 use Rattle.std.specs.Option.{option_map_or}
 use Rattle.hash_family.specs.Limits.{is_rows, is_width}
 use Rattle.mon_words.specs.Values.{Values}
@@ -13,7 +13,7 @@ setting_in values = record {
   rows = values.rows;
   width = values.width;
   heap = values.heap;
-  division = record { seconds = values.epoch; bytes = false };
+  division = record { seconds = values.epoch; bytes = values.bytes };
   heavy = values.heavy;
 }
 

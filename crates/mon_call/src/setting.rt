@@ -34,7 +34,7 @@ impl Setting {
             heap: words.heap,
             division: Division {
                 seconds: words.epoch,
-                bytes: false,
+                bytes: words.bytes,
             },
             heavy: words.heavy,
         }

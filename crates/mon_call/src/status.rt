@@ -1,6 +1,6 @@
 //! How a call ended.
 
-use bound_certificate::CertFault;
+use certificate_text::CertFault;
 use mon_words::UsageFault;
 use routed_trace::TraceFault;
 use topology::TopologyFault;

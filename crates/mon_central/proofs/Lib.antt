@@ -8,3 +8,4 @@ mod Readings
 mod Splitting
 mod Views
 mod Stops
+pub mod Told

@@ -145,7 +145,7 @@ pub kept_all : (setting : Setting) (level : ℕ) (live : List Item) → (setting
 unfolding kept_keys
 kept_all setting level live all = rw all refl
 
-pub kept_heap : (setting : Setting) (level : ℕ) (live : List Item) → (setting.heap == 0) ≡ false → map (λ entry. entry.key) (levels.kept (levels_setting setting) level live) ≡ kept_keys setting level live
+pub kept_heap : (setting : Setting) (level : ℕ) (live : List Item) → (setting.heap == 0) ≡ false → levels.kept_keys (levels_setting setting) level live ≡ kept_keys setting level live
 unfolding kept_keys
 kept_heap setting level live heap = rw heap refl
 

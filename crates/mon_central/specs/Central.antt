@@ -30,7 +30,7 @@ levels_setting setting = record {
 -- the keys that are kept at a level, of the items that are live there
 unfoldable pub kept_keys : Setting → ℕ → List Item → List (List ℕ)
 kept_keys setting level live =
-    if setting.heap == 0 then distinct_keys live else map (λ entry. entry.key) (levels.kept (levels_setting setting) level live)
+    if setting.heap == 0 then distinct_keys live else levels.kept_keys (levels_setting setting) level live
 
 -- how many counters aren't 0
 abbrev pub nonzero : List ℤ → ℕ

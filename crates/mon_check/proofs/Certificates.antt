@@ -2,18 +2,16 @@
 use Rattle.std.proofs.Common.{◌≡◌, ℕ, List, [], Option, Some, None, Ok, Err, IfSome, sym, ◌∙◌, ap, subst}
 use Rattle.bound_certificate.specs.Problem.{Problem}
 use Rattle.bound_certificate.specs.Tree.{first_fault, visits}
-use Rattle.bound_certificate.specs.declared.fault.CertFault.{CertFault}
-use Rattle.bound_certificate.specs.declared.fault.CertFault.TheVariants.{TooLong, NoTree, Line, Node, Memory}
+use Rattle.certificate_text.specs.declared.fault.CertFault.{CertFault}
+use Rattle.certificate_text.specs.declared.fault.CertFault.TheVariants.{TooLong, NoTree, Line, Node, Memory}
 use Rattle.bound_certificate.specs.declared.tree.Tree.{Tree}
 use Rattle.bound_certificate.specs.declared.verdict.TreeFault.{TreeFault}
 use Rattle.bound_certificate.specs.declared.verdict.TreeWhy.{TreeWhy}
 use Rattle.topology.specs.Topology.{Topo, topology_of}
-use Rattle.mon_command.specs.Checked.{HasCertFault, HasWrongNode, IsCertified, ReadsOnly, SpellTopology}
-use Rattle.mon_command.specs.Told.{HasBoth, IsCertificate, IsNoCertificate}
-
--- a fact on told bytes, at these bytes
-pub at_bytes : {contents : Option (List ℕ)} {bytes : List ℕ} (P : List ℕ → Type 0) → contents ≡ Some bytes → IfSome contents P → P bytes
-at_bytes P is holds = subst (λ (told : Option (List ℕ)). IfSome told P) is holds
+use Rattle.mon_call.proofs.Topologies.{at_bytes}
+use Rattle.mon_check.specs.Checked.{HasCertFault, HasWrongNode, IsCertified, ReadsOnly}
+use Rattle.mon_call.specs.Topology.{SpellTopology}
+use Rattle.mon_check.specs.Duty.{HasBoth, IsCertificate, IsNoCertificate}
 
 -- a fact on contents and on the problem of the topology, at those that are told
 pub at_both : {topology contents : Option (List ℕ)} (P : Problem → List ℕ → Type 0) (Q : Option (List ℕ) → Problem → Type 0) (told : HasBoth topology contents P) (topo : Topo)

@@ -1,20 +1,21 @@
 -- How a certificate is read, and the answers behind a topology.
-use Rattle.std.proofs.Common.{◌≡◌, ◌≤◌, ◌<◌, ◌+◌, ◌⊎◌, ℕ, List, ◌++◌, length, Option, Some, None, Result, Ok, Err, IfSome, refl, sym, subst, arith, inl, inr, length-append}
-use Rattle.mon_io.specs.Inputs.{InputState, IsOver, Took}
-use Rattle.mon_io.specs.Sink.{SinkState}
-use Rattle.bound_certificate.specs.ReadText.{ReadsText, text_limit}
-use Rattle.bound_certificate.specs.declared.fault.CertFault.{CertFault}
-use Rattle.bound_certificate.specs.declared.fault.CertFault.TheVariants as cert
+use Rattle.std.proofs.Common.{◌≡◌, ◌≤◌, ◌<◌, ◌+◌, ◌⊎◌, ℕ, List, [], ◌∷◌, ◌++◌, length, Option, Some, None, Result, Ok, Err, IfSome, refl, sym, subst, arith, inl, inr, length-append}
+use Rattle.mon_io.specs.Inputs.{InputState, IsOver, Picked, Took}
+use Rattle.bound_certificate.specs.Problem.{Problem}
 use Rattle.bound_certificate.specs.declared.tree.Tree.{Tree}
+use Rattle.certificate_text.specs.ReadText.{ReadsText, text_limit}
+use Rattle.certificate_text.specs.declared.fault.CertFault.{CertFault}
+use Rattle.certificate_text.specs.declared.fault.CertFault.TheVariants as cert
 use Rattle.topology.specs.Topology.{Topo}
-use Rattle.mon_command.specs.Asked.{Check}
-use Rattle.mon_command.specs.Call.{Answers, IsSuffix, call_of}
-use Rattle.mon_command.specs.Certified.{Certifies}
-use Rattle.mon_command.specs.Checked.{AreRead, HasCertFault, IsCertified, IsMisspelled, ReadsOnly, SpellTopology}
-use Rattle.mon_command.specs.declared.status.Input.TheVariants as inputs
-use Rattle.mon_command.specs.declared.status.Status.{Status}
-use Rattle.mon_command.specs.declared.status.Status.TheVariants.{Done, Usage, ReadFault, Topology, Trace, Certificate, SinkFault, Memory}
-use Rattle.mon_command.proofs.Answered.{rose_later, suffix_left}
+use Rattle.mon_call.specs.Call.{Answers, Call, IsSilent, IsSuffix, Picks}
+use Rattle.mon_call.specs.Topology.{SpellTopology}
+use Rattle.mon_call.specs.declared.status.Input.{Input}
+use Rattle.mon_call.specs.declared.status.Input.TheVariants as inputs
+use Rattle.mon_call.specs.declared.status.Status.{Status}
+use Rattle.mon_call.specs.declared.status.Status.TheVariants.{Done, Usage, ReadFault, Topology, Trace, Certificate, SinkFault, Memory}
+use Rattle.mon_call.proofs.Behind.{IsBehind, suffix_left}
+use Rattle.mon_check.specs.Checked.{AreRead, HasCertFault, IsCertified, IsMisspelled, ReadsOnly}
+use Rattle.mon_check.specs.Duty.{Contents, ReadsCertificate, certify_duty, check_duty, check_left, tree_left, tree_reads}
 
 -- more bytes than a text can have are read in one way
 long_only : (bytes : List ℕ) → text_limit < length bytes → ReadsOnly bytes (Err cert.TooLong)
@@ -58,46 +59,62 @@ are_misspelled contents bytes (cert.Line number) are only = are_read contents by
 are_misspelled contents bytes (cert.Node node why) are only = absurd only.reads
 are_misspelled contents bytes cert.Memory are only = absurd only.reads
 
--- what is answered behind a topology that was read
-pub checked_answers : (topology tree : List ℕ) (topo : Topo) (before mid after : InputState) (sink sink_after : SinkState) (status : Status)
-    → mid.contents ≡ before.contents → before.faults ≤ mid.faults → SpellTopology (before.contents topology) topo → IsOver mid.rest
-    → Certifies tree topo.problem (call_of mid after sink sink_after) status → Answers (Check topology tree) (call_of before after sink sink_after) status
-checked_answers topology tree topo before mid after sink sink_after Done stays later spelled over certifies = record {
-  text = certifies.text;
-  due = record {
+-- what the command owes behind a topology that was read
+pub behind : (contents mid_contents : Contents) (topology tree : List ℕ) (topo : Topo) (before mid : InputState)
+    → mid_contents ≡ contents → SpellTopology (contents topology) topo → IsOver mid.rest
+    → IsBehind (certify_duty mid_contents tree topo.problem) (check_duty contents topology tree) before.rest mid.rest
+behind contents mid_contents topology tree topo before mid same spelled over = record {
+  due = λ text is. record {
     topo = topo;
     read = spelled;
-    certified = subst (λ (f : List ℕ → Option (List ℕ)). IsCertified (f tree) topo.problem certifies.text) stays certifies.due;
+    certified = subst (λ (f : Contents). IsCertified (f tree) topo.problem text) same is;
   };
-  grew = certifies.grew;
+  unfit = λ fault unfit. unfit;
+  refused = λ fault refused. refused;
+  uncertified = λ fault has. (topo, spelled, subst (λ (f : Contents). HasCertFault (f tree) topo.problem fault) same has);
+  left = left;
+  once = λ now left. left;
 }
-checked_answers topology tree topo before mid after sink sink_after (Usage fault) stays later spelled over certifies = absurd certifies
-checked_answers topology tree topo before mid after sink sink_after (ReadFault inputs.Topology) stays later spelled over certifies = absurd certifies
-checked_answers topology tree topo before mid after sink sink_after (ReadFault inputs.Trace) stays later spelled over certifies = absurd certifies
-checked_answers topology tree topo before mid after sink sink_after (ReadFault inputs.Tree) stays later spelled over certifies = (
-  rose_later before.faults mid.faults after.faults later certifies.0,
-  (
-    (Some topo, (topo, refl, spelled)),
-    subst (λ (f : List ℕ → Option (List ℕ)). IsSuffix (f tree) after.rest) stays (suffix_left (mid.contents tree) mid.rest after.rest over certifies.1),
-  ),
-  certifies.2,
-)
-checked_answers topology tree topo before mid after sink sink_after (Topology fault) stays later spelled over certifies = absurd certifies
-checked_answers topology tree topo before mid after sink sink_after (Trace fault) stays later spelled over certifies = absurd certifies
-checked_answers topology tree topo before mid after sink sink_after (Certificate fault) stays later spelled over certifies = (
-  (topo, spelled, subst (λ (f : List ℕ → Option (List ℕ)). HasCertFault (f tree) topo.problem fault) stays certifies.0),
-  certifies.1,
-)
-checked_answers topology tree topo before mid after sink sink_after SinkFault stays later spelled over certifies = (
-  certifies.0,
-  record {
-    text = certifies.1.text;
-    due = record {
-      topo = topo;
-      read = spelled;
-      certified = subst (λ (f : List ℕ → Option (List ℕ)). IsCertified (f tree) topo.problem certifies.1.text) stays certifies.1.due;
-    };
-    part = certifies.1.part;
-  },
-)
-checked_answers topology tree topo before mid after sink sink_after Memory stays later spelled over certifies = certifies
+  where
+    left : (input : Input) (now : Option (List ℕ)) → tree_left mid_contents tree input mid.rest now → check_left contents topology tree input before.rest now
+    left inputs.Topology now is = absurd is
+    left inputs.Trace now is = absurd is
+    left inputs.Tree now is = (
+      (topo, spelled),
+      subst (λ (f : Contents). IsSuffix (f tree) now) same (suffix_left (mid_contents tree) mid.rest now over is),
+    )
+
+-- a certificate that is not read or is misspelled
+pub uncertified : (contents : Contents) (tree : List ℕ) (problem : Problem) (call : Call) (status : Status) → IsSilent call
+    → (call.inputs.contents ≡ contents) → ReadsCertificate (contents tree) call.inputs call.inputs_after (Err status) → Answers (certify_duty contents tree problem) call status
+uncertified contents tree problem call Done silent same reads = absurd reads
+uncertified contents tree problem call (Usage fault) silent same reads = absurd reads
+uncertified contents tree problem call (ReadFault inputs.Topology) silent same reads = absurd reads
+uncertified contents tree problem call (ReadFault inputs.Trace) silent same reads = absurd reads
+uncertified contents tree problem call (ReadFault inputs.Tree) silent same reads = (reads.0, reads.1, silent)
+uncertified contents tree problem call (Topology fault) silent same reads = absurd reads
+uncertified contents tree problem call (Trace fault) silent same reads = absurd reads
+uncertified contents tree problem call (Certificate fault) silent same reads = (has_fault fault reads, silent)
+  where
+    has_fault : (f : CertFault) → IsMisspelled (contents tree) f → HasCertFault (contents tree) problem f
+    has_fault cert.TooLong is = is
+    has_fault cert.NoTree is = is
+    has_fault (cert.Line number) is = is
+    has_fault (cert.Node node why) is = absurd is
+    has_fault cert.Memory is = absurd is
+uncertified contents tree problem call SinkFault silent same reads = absurd reads
+uncertified contents tree problem call Memory silent same reads = silent
+
+pub picks_uncertified : (before after : List (List ℕ) → Type 0) (contents : Option (List ℕ)) (name : List ℕ) (call : Call) (status : Status)
+    → ReadsCertificate contents call.inputs call.inputs_after (Err status) → Picked before after (name ∷ []) → Picks before after (tree_reads name) status
+picks_uncertified before after contents name call Done reads picked = absurd reads
+picks_uncertified before after contents name call (Usage fault) reads picked = absurd reads
+picks_uncertified before after contents name call (ReadFault inputs.Topology) reads picked = absurd reads
+picks_uncertified before after contents name call (ReadFault inputs.Trace) reads picked = absurd reads
+picks_uncertified before after contents name call (ReadFault inputs.Tree) reads picked = picked
+picks_uncertified before after contents name call (Topology fault) reads picked = absurd reads
+picks_uncertified before after contents name call (Trace fault) reads picked = absurd reads
+picks_uncertified before after contents name call (Certificate fault) reads picked = picked
+picks_uncertified before after contents name call SinkFault reads picked = absurd reads
+picks_uncertified before after contents name call Memory reads picked =
+    record { front = name ∷ []; back = []; parts = refl; picked = picked }

@@ -5,14 +5,15 @@ use Rattle.bound_certificate.specs.Bound.{IsBelow}
 use Rattle.bound_certificate.specs.Formed.{is_formed}
 use Rattle.bound_certificate.specs.Placement.{cost, fits}
 use Rattle.bound_certificate.specs.Problem.{Problem}
-use Rattle.bound_certificate.specs.ReadText.{ReadsText}
+use Rattle.certificate_text.specs.ReadText.{ReadsText}
 use Rattle.bound_certificate.specs.Tree.{first_fault, verdict_of, visits}
-use Rattle.bound_certificate.specs.declared.fault.CertFault.{CertFault}
-use Rattle.bound_certificate.specs.declared.fault.CertFault.TheVariants.{TooLong, NoTree, Line, Node, Memory}
+use Rattle.certificate_text.specs.declared.fault.CertFault.{CertFault}
+use Rattle.certificate_text.specs.declared.fault.CertFault.TheVariants.{TooLong, NoTree, Line, Node, Memory}
 use Rattle.bound_certificate.specs.declared.tree.Tree.{Tree}
 use Rattle.bound_certificate.specs.declared.verdict.TreeWhy.{TreeWhy}
 use Rattle.bound_certificate.specs.declared.verdict.Verdict.{Verdict}
-use Rattle.topology.specs.Topology.{Topo, topology_of}
+use Rattle.topology.specs.Topology.{Topo}
+use Rattle.mon_call.specs.Topology.{SpellTopology}
 
 -- a bound, where there is one
 abbrev pub bound_text : Option ℤ → List ℕ
@@ -48,10 +49,6 @@ pub record IsCertified (contents : Option (List ℕ)) (problem : Problem) (text 
   pub below : (placement : List ℕ) → IsTrue (fits problem placement) → IsBelow verdict.bound (cost problem placement)
   pub lines : text ≡ verdict_text verdict
 
--- the topology that contents spell
-abbrev pub SpellTopology : Option (List ℕ) → Topo → Type 0
-SpellTopology contents topo = IfSome contents (λ bytes. topology_of bytes ≡ Ok topo)
-
 -- the text for a topology and a certificate
 pub record IsChecked (contents : List ℕ → Option (List ℕ)) (topology tree text : List ℕ) : Type 0 where
   pub topo : Topo
@@ -80,8 +77,3 @@ HasCertFault contents problem NoTree = IsMisspelled contents NoTree
 HasCertFault contents problem (Line number) = IsMisspelled contents (Line number)
 HasCertFault contents problem (Node node why) = HasWrongNode contents problem node why
 HasCertFault contents problem Memory = ⊥
-
--- why a certificate is refused for the topology that is read before it
-abbrev pub IsUncertified : (List ℕ → Option (List ℕ)) → List ℕ → List ℕ → CertFault → Type 0
-IsUncertified contents topology tree fault =
-    (topo : Topo) × SpellTopology (contents topology) topo × HasCertFault (contents tree) topo.problem fault

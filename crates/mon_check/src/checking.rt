@@ -1,20 +1,18 @@
-//! The command `check`: a tree against a topology, and the bound that it proves.
+//! The command `check`.
 ghost use Rattle.std.specs.Prelude.{◌≡◌, ◌≤◌, IfOk, string_bytes};
-ghost use Rattle.mon_command.specs.Asked.{Check};
-ghost use Rattle.mon_command.specs.Call.{Answers, Keeps, call_of};
-ghost use Rattle.mon_command.specs.Certified.{Certifies};
-ghost use Rattle.mon_command.specs.Checked.{bound_text, full_word, verdict_text};
+ghost use Rattle.mon_call.specs.Call.{Answers, Keeps, Picks, call_of};
+ghost use Rattle.mon_check.specs.Checked.{bound_text, full_word, verdict_text};
+ghost use Rattle.mon_check.specs.Duty.{certify_duty, check_duty, check_reads, tree_reads};
 
 use crate::certificate_file::read_certificate;
-use crate::stop::{CertificateStop, TopologyStop};
-use crate::topology_file::read_topology;
-use crate::{Input, Status};
-use bound_certificate::{CertFault, Problem, TreeFault, Verdict, check};
-use mon_io::{Inputs, Sink, write_all};
+use bound_certificate::{Problem, TreeFault, Verdict, check};
+use certificate_text::CertFault;
+use mon_call::{Status, finish, read_topology};
+use mon_io::{Inputs, Sink};
 use std::alloc::{AllocError, Global};
 
 /// Reads a topology and a tree, checks the tree, and writes what it says.
-pub(crate) fn check_tree<I: Inputs, K: Sink>(
+pub fn check_tree<I: Inputs, K: Sink>(
     alloc: Global,
     topology: &str,
     tree: &str,
@@ -22,14 +20,13 @@ pub(crate) fn check_tree<I: Inputs, K: Sink>(
     sink: &mut K,
 ) -> Status
     ensures answers { let call = call_of (I.state inputs.old) (I.state inputs.new) (K.state sink.old) (K.state sink.new) in
-        Answers (Check topology.now tree.now) call result }
+        Answers (check_duty call.inputs.contents topology.now tree.now) call result }
+    ensures picks { Picks (I.picks inputs.old) (I.picks inputs.new) (check_reads topology.now tree.now) result }
     ensures keeps { Keeps (call_of (I.state inputs.old) (I.state inputs.new) (K.state sink.old) (K.state sink.new)) }
 {
     let network = match read_topology(alloc, topology, inputs) {
         Ok(network) => network,
-        Err(TopologyStop::Read) => return Status::ReadFault(Input::Topology),
-        Err(TopologyStop::Bad(fault)) => return Status::Topology(fault),
-        Err(TopologyStop::Memory) => return Status::Memory,
+        Err(status) => return status,
     };
     certify(alloc, tree, network.problem(), inputs, sink)
 }
@@ -42,15 +39,14 @@ fn certify<I: Inputs, K: Sink>(
     inputs: &mut I,
     sink: &mut K,
 ) -> Status
-    ensures certifies { let call = call_of (I.state inputs.old) (I.state inputs.new) (K.state sink.old) (K.state sink.new) in
-        Certifies tree.now problem.now call result }
+    ensures answers { let call = call_of (I.state inputs.old) (I.state inputs.new) (K.state sink.old) (K.state sink.new) in
+        Answers (certify_duty call.inputs.contents tree.now problem.now) call result }
+    ensures picks { Picks (I.picks inputs.old) (I.picks inputs.new) (tree_reads tree.now) result }
     ensures keeps { Keeps (call_of (I.state inputs.old) (I.state inputs.new) (K.state sink.old) (K.state sink.new)) }
 {
     let certificate = match read_certificate(alloc, tree, inputs) {
         Ok(certificate) => certificate,
-        Err(CertificateStop::Read) => return Status::ReadFault(Input::Tree),
-        Err(CertificateStop::Bad(fault)) => return Status::Certificate(fault),
-        Err(CertificateStop::Memory) => return Status::Memory,
+        Err(status) => return status,
     };
     let verdict = match check(problem, &certificate) {
         Ok(verdict) => verdict,
@@ -59,10 +55,7 @@ fn certify<I: Inputs, K: Sink>(
     let Ok(text) = verdict_text(alloc, verdict) else {
         return Status::Memory;
     };
-    match write_all(sink, text.as_bytes()) {
-        Ok(()) => Status::Done,
-        Err(_) => Status::SinkFault,
-    }
+    finish(sink, text.as_str())
 }
 
 // The lines of what a tree says.

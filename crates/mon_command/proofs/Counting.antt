@@ -1,14 +1,21 @@
 -- The numbers of the packets that were read.
-use Rattle.std.proofs.Common.{◌≡◌, ℕ, ◌+◌, ◌<◌, List, [], ◌∷◌, ◌++◌, length, cond, Bool, is_some, Option, Some, Ok, sym, ◌∙◌, ap, arith, length-append}
+use Rattle.std.proofs.Common.{◌≡◌, ◌⊎◌, ℕ, ◌+◌, ◌<◌, ◌≤◌, List, [], ◌∷◌, ◌++◌, length, cond, Bool, is_some, Option, Some, None, Ok, Err, refl, inl, inr, sym, ◌∙◌, ap, arith, length-append}
 use Rattle.std.proofs.lemmas.List.Sums.{sum_by-append}
 use Rattle.flow_keys.specs.Frame.{frame_key}
 use Rattle.flow_keys.specs.declared.link.Link.{Link}
 use Rattle.pcap_reader.specs.Trace.{Record}
-use Rattle.pcap_reader.specs.Reader.{SoFar, Advanced, captured_of}
+use Rattle.mon_io.specs.Faults.{Rose}
+use Rattle.mon_io.specs.Inputs.{InputState}
+use Rattle.pcap_reader.specs.Reader.{SoFar, Advanced, Begun, captured_of}
+use Rattle.pcap_reader.specs.declared.fault.PcapStop.{PcapStop}
+use Rattle.pcap_reader.specs.declared.fault.PcapStop.TheVariants as stops
+use Rattle.mon_call.specs.Trace.{ReadsTrace, status_at}
+use Rattle.mon_command.specs.Total.{IsBroken, IsCount}
 use Rattle.pcap_reader.specs.declared.header.Header.{Header}
 use Rattle.pcap_reader.specs.declared.packet.Packet.{Packet}
 use Rattle.pcap_reader.specs.declared.reader.PcapReader.{PcapReader}
-use Rattle.mon_command.specs.Total.{keyed_in}
+use Rattle.routed_trace.specs.Routed.{keyed_in}
+use Rattle.routed_trace.proofs.Records.{keyed_push}
 
 -- the numbers are those of the records that a reader has read
 pub record Counting (contents rest : Option (List ℕ)) (reader : PcapReader) (packets keyed : ℕ) : Type 0 where
@@ -16,12 +23,6 @@ pub record Counting (contents rest : Option (List ℕ)) (reader : PcapReader) (p
   pub so_far : SoFar contents rest reader members
   pub packets_is : packets ≡ length members
   pub keyed_is : keyed ≡ keyed_in reader.header members
-
-pub keyed_push : (header : Header) (members : List Record) (member : Record) (b : Bool) → is_some (frame_key header.link member.captured) ≡ b
-    → keyed_in header (members ++ member ∷ []) ≡ keyed_in header members + cond {A = ℕ} b 1 0
-keyed_push header members member b is =
-    let one = λ (m : Record). cond {A = ℕ} (is_some (frame_key header.link m.captured)) 1 0 in
-    omega (arith, sum_by-append one members (member ∷ []), ap (λ (k : Bool). cond {A = ℕ} k 1 0) is)
 
 -- one more packet
 pub counted_more : {contents rest now : Option (List ℕ)} {reader next : PcapReader} {packets keyed : ℕ} (packet : Packet) (b : Bool) (more : ℕ)
@@ -42,3 +43,25 @@ counted_more {reader = reader} {next = next} {packets = packets} {keyed = keyed}
       },
       omega (arith, counting.packets_is, length-append counting.members (member ∷ []), advanced.1.begins.few),
     )
+
+-- where reading stops, at its beginning
+pub begun_stop : (contents : Option (List ℕ)) (before now : InputState) (stop : PcapStop) → Begun contents before.rest now.rest (Err stop)
+    → (stop ≡ stops.Read → Rose before.faults now.faults) → ReadsTrace (IsCount contents) (IsBroken contents) contents before now (Err (status_at stop))
+begun_stop contents before now stops.Read begun cause = (cause refl, begun)
+begun_stop None before now (stops.Bad fault) begun cause = tt
+begun_stop (Some bytes) before now (stops.Bad fault) begun cause = ([], begun)
+begun_stop contents before now stops.Memory begun cause = tt
+
+-- behind some records
+pub advanced_stop : (contents : Option (List ℕ)) (before mid now : InputState) (reader next : PcapReader) (members : List Record) (stop : PcapStop)
+    → SoFar contents mid.rest reader members → Advanced contents now.rest next members (Err stop) → before.faults ≤ mid.faults
+    → (stop ≡ stops.Read → (reader.stop ≡ Some stops.Read) ⊎ Rose mid.faults now.faults)
+    → ReadsTrace (IsCount contents) (IsBroken contents) contents before now (Err (status_at stop))
+advanced_stop contents before mid now reader next members stops.Read so_far advanced later cause = (rose (cause refl), inr advanced)
+  where
+    rose : (reader.stop ≡ Some stops.Read) ⊎ Rose mid.faults now.faults → Rose before.faults now.faults
+    rose (inl stopped) = absurd (cc (sym so_far.going ∙ stopped))
+    rose (inr r) = omega (arith, later, r)
+advanced_stop None before mid now reader next members (stops.Bad fault) so_far advanced later cause = tt
+advanced_stop (Some bytes) before mid now reader next members (stops.Bad fault) so_far advanced later cause = (members, advanced)
+advanced_stop contents before mid now reader next members stops.Memory so_far advanced later cause = tt

@@ -1,15 +1,2 @@
-pub mod Answered
-pub mod Certificates
-pub mod Certifying
-pub mod Completeness
-pub mod Counting
-pub mod Splitting
-pub mod Fronts
-pub mod Kept
-pub mod LiveCounts
-pub mod OneMore
-pub mod Packets
-pub mod Ranges
-pub mod Readings
-pub mod Scans
-pub mod Views
+mod Counting
+mod Telling

@@ -1,14 +1,4 @@
 pub mod Asked
-pub mod Call
-pub mod Central
-pub mod Certified
-pub mod Checked
-pub mod Complete
-pub mod Live
-pub mod Report
-pub mod Routed
-pub mod Scan
-pub mod Sketched
+pub mod Outcome
 pub mod Status
-pub mod Told
 pub mod Total

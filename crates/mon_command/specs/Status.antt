@@ -3,15 +3,15 @@ use Rattle.std.specs.Prelude.{ℕ, ◌/◌, ◌%◌, false, List, [], ◌++◌, 
 use Rattle.std.specs.Fmt.{radix_digits}
 use Rattle.pcap_reader.specs.declared.fault.PcapFault.{PcapFault}
 use Rattle.pcap_reader.specs.declared.fault.PcapFault.TheVariants as pcap
-use Rattle.bound_certificate.specs.declared.fault.CertFault.{CertFault}
-use Rattle.bound_certificate.specs.declared.fault.CertFault.TheVariants as certificate
+use Rattle.certificate_text.specs.declared.fault.CertFault.{CertFault}
+use Rattle.certificate_text.specs.declared.fault.CertFault.TheVariants as certificate
 use Rattle.bound_certificate.specs.declared.verdict.TreeWhy.{TreeWhy}
 use Rattle.bound_certificate.specs.declared.verdict.TreeWhy.TheVariants as why
-use Rattle.mon_command.specs.declared.status.Input.TheVariants as inputs
-use Rattle.mon_command.specs.declared.status.Status.{Status}
-use Rattle.mon_command.specs.declared.status.Status.TheVariants.{Done, Usage, ReadFault, Topology, Trace, Certificate, SinkFault, Memory}
-use Rattle.mon_command.specs.declared.status.TraceFault.{TraceFault}
-use Rattle.mon_command.specs.declared.status.TraceFault.TheVariants.{Pcap, Epochs}
+use Rattle.mon_call.specs.declared.status.Input.TheVariants as inputs
+use Rattle.mon_call.specs.declared.status.Status.{Status}
+use Rattle.mon_call.specs.declared.status.Status.TheVariants.{Done, Usage, ReadFault, Topology, Trace, Certificate, SinkFault, Memory}
+use Rattle.routed_trace.specs.declared.fault.TraceFault.{TraceFault}
+use Rattle.routed_trace.specs.declared.fault.TraceFault.TheVariants.{Pcap, Epochs, Weight}
 use Rattle.mon_words.specs.Options.{name_of}
 use Rattle.mon_words.specs.declared.usage_fault.UsageFault.{UsageFault}
 use Rattle.mon_words.specs.declared.usage_fault.UsageFault.TheVariants.{NoCommand, UnknownCommand, Refused, Value}
@@ -61,6 +61,7 @@ pcap_line pcap.TooMany = codes "univmon: trace: too many records"
 abbrev pub trace_line : TraceFault → List ℕ
 trace_line (Pcap fault) = pcap_line fault
 trace_line (Epochs number index) = codes "univmon: trace: epoch " ++ (decimal index ++ (codes " at record " ++ decimal number))
+trace_line (Weight number) = codes "univmon: trace: weight at record " ++ decimal number
 
 abbrev pub entry_word : Entry → List ℕ
 entry_word entry.Switch = codes "switch"

@@ -1,13 +1,20 @@
 -- The text of `total`.
-use Rattle.std.specs.Prelude.{◌≡◌, ℕ, ◌-◌, List, ◌++◌, length, count_by, is_some, Option, IfSome, codes, decimal}
-use Rattle.flow_keys.specs.Frame.{frame_key}
+use Rattle.std.specs.Prelude.{◌≡◌, ℕ, ◌-◌, List, [], ◌∷◌, ◌++◌, length, Option, IfSome, codes, decimal}
+use Rattle.mon_io.specs.Inputs.{IsLeft}
+use Rattle.pcap_reader.specs.Laws.{HasTrace}
+use Rattle.pcap_reader.specs.declared.fault.PcapFault.{PcapFault}
 use Rattle.pcap_reader.specs.declared.header.Header.{Header}
-use Rattle.pcap_reader.specs.Trace.{Record, IsTrace}
+use Rattle.pcap_reader.specs.Trace.{Record, Broken, IsTrace}
+use Rattle.routed_trace.specs.Routed.{keyed_in}
+use Rattle.routed_trace.specs.declared.fault.TraceFault.{TraceFault}
+use Rattle.routed_trace.specs.declared.fault.TraceFault.TheVariants.{Pcap, Epochs, Weight}
+use Rattle.mon_call.specs.Call.{Duty, Reading, reading}
+use Rattle.mon_call.specs.Told.{HasBytes}
+use Rattle.mon_call.specs.declared.status.Input.{Input}
+use Rattle.mon_call.specs.declared.status.Input.TheVariants as inputs
+use Rattle.mon_call.specs.declared.status.Status.{Status}
+use Rattle.mon_call.specs.declared.status.Status.TheVariants.{Done, Usage, ReadFault, Topology, Trace, Certificate, SinkFault, Memory}
 use Rattle.mon_command.specs.declared.total.Counts.{Counts}
-
--- how many records have a key
-abbrev pub keyed_in : Header → List Record → ℕ
-keyed_in header members = count_by (λ member. is_some (frame_key header.link member.captured)) members
 
 -- the lines of a number of packets, of which so many have a key
 abbrev pub total_lines : ℕ → ℕ → List ℕ
@@ -28,3 +35,43 @@ pub record IsTotal (contents : Option (List ℕ)) (text : List ℕ) : Type 0 whe
   pub counts : Counts
   pub is_count : IsCount contents counts
   pub lines : text ≡ total_lines counts.packets counts.keyed
+
+-- told contents come to this fault of the format behind some records
+abbrev pub IsBroken : Option (List ℕ) → TraceFault → Type 0
+IsBroken contents (Pcap fault) = IfSome contents (λ bytes. (members : List Record) × Broken bytes members fault)
+IsBroken contents (Epochs number index) = ⊥
+IsBroken contents (Weight number) = ⊥
+
+-- what is read
+abbrev pub total_reads : List ℕ → List Reading
+total_reads trace = reading inputs.Trace trace ∷ []
+
+-- what is left of the trace
+abbrev pub total_left : Option (List ℕ) → Input → Option (List ℕ) → Option (List ℕ) → Type 0
+total_left contents inputs.Topology before now = ⊥
+total_left contents inputs.Trace before now = IsLeft contents before now
+total_left contents inputs.Tree before now = ⊥
+
+-- what the command owes, of the contents of the trace
+abbrev pub total_duty : Option (List ℕ) → List ℕ → Duty
+total_duty contents trace = record {
+  reads = total_reads trace;
+  due = IsTotal contents;
+  unfit = λ fault. ⊥;
+  refused = IsBroken contents;
+  uncertified = λ fault. ⊥;
+  left = total_left contents;
+}
+
+-- the trace is told, and so is this status: that it has no fault, or the fault of its format
+abbrev pub TellsTotal : Option (List ℕ) → Status → Type 0
+TellsTotal contents Done = HasBytes contents HasTrace
+TellsTotal contents (Usage fault) = ⊥
+TellsTotal contents (ReadFault input) = ⊥
+TellsTotal contents (Topology fault) = ⊥
+TellsTotal contents (Trace (Pcap fault)) = HasBytes contents (λ bytes. (members : List Record) × Broken bytes members fault)
+TellsTotal contents (Trace (Epochs number index)) = ⊥
+TellsTotal contents (Trace (Weight number)) = ⊥
+TellsTotal contents (Certificate fault) = ⊥
+TellsTotal contents SinkFault = ⊥
+TellsTotal contents Memory = ⊥

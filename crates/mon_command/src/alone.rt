@@ -1,19 +1,17 @@
 //! The commands that start nobody.
 ghost use Rattle.std.specs.Prelude.{◌≡◌, map, string_bytes};
 ghost use Rattle.mon_words.specs.Values.{IsInRange};
+ghost use Rattle.mon_call.specs.Call.{Keeps, UnlessMemory, call_of};
 ghost use Rattle.mon_command.specs.Asked.{Asked, asked_in, asked_of};
-ghost use Rattle.mon_command.specs.Call.{Answers, Outcome, Keeps, call_of};
-ghost use Rattle.mon_command.specs.Complete.{UnlessMemory};
-ghost use Rattle.mon_command.specs.Told.{IsSmooth, IsAccepted, HasTold, HasToldUncertified, HasToldUnfit};
-ghost use Rattle.mon_command.specs.declared.status.TraceFault.{TraceFault};
-ghost use Rattle.bound_certificate.specs.declared.fault.CertFault.{CertFault};
+ghost use Rattle.mon_command.specs.Outcome.{Answered, IsCalm, Outcome, Tells};
+ghost use Rattle.certificate_text.specs.declared.fault.CertFault.{CertFault};
+ghost use Rattle.routed_trace.specs.declared.fault.TraceFault.{TraceFault};
 ghost use Rattle.topology.specs.declared.fault.TopologyFault.{TopologyFault};
 
-use crate::Status;
-use crate::central::{central, central_routed};
-use crate::checking::check_tree;
-use crate::setting::Setting;
 use crate::total::total;
+use mon_call::{Setting, Status};
+use mon_central::{central_alone, central_routed};
+use mon_check::check_tree;
 use mon_io::{Inputs, Sink};
 use mon_words::{Command, Words, WordsFault, read_words};
 use std::alloc::Global;
@@ -26,31 +24,31 @@ pub fn run_alone<I: Inputs, K: Sink>(
     sink: &mut K,
 ) -> Status
     ensures outcome { let call = call_of (I.state inputs.old) (I.state inputs.new) (K.state sink.old) (K.state sink.new) in
-        Outcome (asked_of (map string_bytes words.now)) call result }
+        Outcome (I.picks inputs.old) (I.picks inputs.new) (asked_of (map string_bytes words.now)) call result }
     ensures keeps { Keeps (call_of (I.state inputs.old) (I.state inputs.new) (K.state sink.old) (K.state sink.new)) }
 
     // Without a fault the work is done, unless memory runs out.
     ensures complete { (asked : Asked) →
         let call = call_of (I.state inputs.old) (I.state inputs.new) (K.state sink.old) (K.state sink.new) in
-        IsSmooth (asked_of (map string_bytes words.now)) asked call → IsAccepted asked call →
+        IsCalm (asked_of (map string_bytes words.now)) asked call → Tells call asked Status.Done →
         UnlessMemory Status.Done result }
 
     // A fault of the topology is told, unless memory runs out.
     ensures unfit { (asked : Asked) (fault : TopologyFault) →
         let call = call_of (I.state inputs.old) (I.state inputs.new) (K.state sink.old) (K.state sink.new) in
-        IsSmooth (asked_of (map string_bytes words.now)) asked call → HasToldUnfit asked call fault →
+        IsCalm (asked_of (map string_bytes words.now)) asked call → Tells call asked (Status.Topology fault) →
         UnlessMemory (Status.Topology fault) result }
 
     // A fault of the trace is told, unless memory runs out.
     ensures refused { (asked : Asked) (fault : TraceFault) →
         let call = call_of (I.state inputs.old) (I.state inputs.new) (K.state sink.old) (K.state sink.new) in
-        IsSmooth (asked_of (map string_bytes words.now)) asked call → HasTold asked call fault →
+        IsCalm (asked_of (map string_bytes words.now)) asked call → Tells call asked (Status.Trace fault) →
         UnlessMemory (Status.Trace fault) result }
 
     // A fault of the certificate is told, unless memory runs out.
     ensures uncertified { (asked : Asked) (fault : CertFault) →
         let call = call_of (I.state inputs.old) (I.state inputs.new) (K.state sink.old) (K.state sink.new) in
-        IsSmooth (asked_of (map string_bytes words.now)) asked call → HasToldUncertified asked call fault →
+        IsCalm (asked_of (map string_bytes words.now)) asked call → Tells call asked (Status.Certificate fault) →
         UnlessMemory (Status.Certificate fault) result }
 {
     answer(alloc, words, inputs, sink)
@@ -64,7 +62,7 @@ fn answer<I: Inputs, K: Sink>(
     sink: &mut K,
 ) -> Status
     ensures outcome { let call = call_of (I.state inputs.old) (I.state inputs.new) (K.state sink.old) (K.state sink.new) in
-        Outcome (asked_of (map string_bytes words.now)) call result }
+        Outcome (I.picks inputs.old) (I.picks inputs.new) (asked_of (map string_bytes words.now)) call result }
     ensures keeps { Keeps (call_of (I.state inputs.old) (I.state inputs.new) (K.state sink.old) (K.state sink.new)) }
 {
     match read_words(alloc, words) {
@@ -77,8 +75,8 @@ fn answer<I: Inputs, K: Sink>(
 // Each command by itself.
 fn perform<I: Inputs, K: Sink>(alloc: Global, words: &Words, inputs: &mut I, sink: &mut K) -> Status
     requires { IsInRange words.now }
-    ensures answers { let call = call_of (I.state inputs.old) (I.state inputs.new) (K.state sink.old) (K.state sink.new) in
-        Answers (asked_in words.now) call result }
+    ensures answered { let call = call_of (I.state inputs.old) (I.state inputs.new) (K.state sink.old) (K.state sink.new) in
+        Answered (I.picks inputs.old) (I.picks inputs.new) (asked_in words.now) call result }
     ensures keeps { Keeps (call_of (I.state inputs.old) (I.state inputs.new) (K.state sink.old) (K.state sink.new)) }
 {
     let name = words.names[0].as_str();
@@ -90,7 +88,7 @@ fn perform<I: Inputs, K: Sink>(alloc: Global, words: &Words, inputs: &mut I, sin
                 Some(topology) => {
                     central_routed(alloc, name, topology.as_str(), &setting, inputs, sink)
                 }
-                None => central(alloc, name, &setting, inputs, sink),
+                None => central_alone(alloc, name, &setting, inputs, sink),
             }
         }
         Command::Check => check_tree(alloc, name, words.names[1].as_str(), inputs, sink),

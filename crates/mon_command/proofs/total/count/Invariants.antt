@@ -1,4 +1,5 @@
 use Rattle.std.proofs.Common.{◌≡◌, ◌≤◌, ◌-◌}
+use Rattle.mon_io.specs.Inputs.{Picked}
 use Rattle.mon_command.proofs.Counting.{Counting}
 use Rattle.mon_command.proofs.total.count.Given as goal
 
@@ -7,6 +8,7 @@ invariant-loop-packet g l =
     Counting ((g.I.Inputs.state l.fn.inputs).contents l.trace) (g.I.Inputs.state l.inputs).rest l.reader l.packets l.keyed
     × ((g.I.Inputs.state l.fn.inputs).faults ≤ (g.I.Inputs.state l.inputs).faults)
     × ((g.I.Inputs.state l.inputs).contents ≡ (g.I.Inputs.state l.fn.inputs).contents)
+    × Picked (g.I.Inputs.picks l.fn.inputs) (g.I.Inputs.picks l.inputs) (l.trace ∷ [])
 
 abbrev pub decreases-loop-packet : goal.decreases-loop-packet
 decreases-loop-packet g l = 1048576 - l.packets

@@ -28,5 +28,5 @@ returns-in-None-clause-value c = if_ok_weaker c.keys-in-None.result (λ keys all
     let setting = c.args.setting.now in
     let none = noted_nothing setting items c.in-None.is sketches.noted in
     all items sketches.holds
-    ∙ ap (λ (s : sketch.Setting). map (λ entry. entry.key) (levels.kept s c.args.level (live_items s.seed c.args.level items))) sketches.shape
+    ∙ ap (λ (s : sketch.Setting). levels.kept_keys s c.args.level (live_items s.seed c.args.level items)) sketches.shape
     ∙ kept_heap setting c.args.level (live_items setting.seed c.args.level items) none) c.keys-in-None.ensures.list

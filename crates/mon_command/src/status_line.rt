@@ -1,56 +1,15 @@
-//! How a call ended.
+//! The number and the line of a status.
 ghost use Rattle.std.specs.Prelude.{◌≡◌, IfOk, string_bytes};
 ghost use Rattle.mon_command.specs.Status.{number_of, line_of, pcap_line, trace_line, usage_line};
 
 use crate::certificate_line::certificate_text;
 use crate::topology_line::topology_text;
-use bound_certificate::CertFault;
+use mon_call::{Input, Status};
 use mon_io::Memory;
 use mon_words::UsageFault;
 use pcap_reader::PcapFault;
+use routed_trace::TraceFault;
 use std::alloc::{AllocError, Global};
-use topology::TopologyFault;
-
-/// How a call ended.
-#[derive(Clone, Copy, Debug, PartialEq, Eq)]
-pub enum Status {
-    /// The work was done and the whole text written.
-    Done,
-    /// The words of the call are refused.
-    Usage(UsageFault),
-    /// An input could not be picked or read.
-    ReadFault(Input),
-    /// The topology is refused, by its first fault.
-    Topology(TopologyFault),
-    /// The trace is refused, by its first fault in the order of the file.
-    Trace(TraceFault),
-    /// The certificate is refused, by its first fault.
-    Certificate(CertFault),
-    /// The text could not be written to its end.
-    SinkFault,
-    /// A growth was refused.
-    Memory,
-}
-
-/// What is read.
-#[derive(Clone, Copy, Debug, PartialEq, Eq)]
-pub enum Input {
-    /// The topology.
-    Topology,
-    /// The trace.
-    Trace,
-    /// The tree.
-    Tree,
-}
-
-/// Why a trace is refused.
-#[derive(Clone, Copy, Debug, PartialEq, Eq)]
-pub enum TraceFault {
-    /// It is no classic pcap trace.
-    Pcap(PcapFault),
-    /// The record of this number, from 0, is the first in an epoch above the eighth, which has the index 7.
-    Epochs { number: u32, index: u32 },
-}
 
 /// The number with which the program ends: 0 where the work was done.
 pub fn status_number(status: &Status) -> u8
@@ -113,6 +72,9 @@ fn trace_text(alloc: Global, fault: TraceFault) -> Result<String, AllocError>
         TraceFault::Pcap(fault) => pcap_text(alloc, fault),
         TraceFault::Epochs { number, index } => {
             format!(in alloc; "univmon: trace: epoch {index} at record {number}")
+        }
+        TraceFault::Weight { number } => {
+            format!(in alloc; "univmon: trace: weight at record {number}")
         }
     }
 }

@@ -1,0 +1,3 @@
+mod Certificates
+mod Certifying
+pub mod Told

@@ -1,7 +1,0 @@
-use Rattle.mon_command.proofs.Answered.{too_long}
-use Rattle.mon_command.proofs.topology_file.read_topology.Goals as goal
-
-pub returns-in-Err-TooLong-clause-reads : goal.returns-in-Err-TooLong-clause-reads
-returns-in-Err-TooLong-clause-reads g c =
-    let reads = rw c.in-Err-TooLong.field-0-is at c.in-Err-TooLong.ensures.reads in
-    too_long _ _ reads.0 reads.1 reads.2
