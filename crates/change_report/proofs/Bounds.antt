@@ -10,7 +10,8 @@ pub levels_within : (levels rows width heap : ℕ) → IsTrue (are_within levels
 levels_within levels rows width heap within = grind (arith, nat_tests)
 
 -- the sum over the keys of two sketches of at most 2^20 keys a level
-pub total_within : (levels : ℕ) (total : ℤ) → levels ≤ 16 → unsigned_abs total ≤ 2 ^ (levels + 1) * (1048576 + 1048576) * 2 ^ 45 → unsigned_abs total ≤ 2 ^ 100
+pub total_within : (levels : ℕ) (total : ℤ) → levels ≤ 16
+    → unsigned_abs total ≤ 2 ^ (levels + 1) * (1048576 + 1048576) * 2 ^ 45 → unsigned_abs total ≤ 2 ^ 100
 total_within levels total high bound =
     let power : 2 ^ (levels + 1) ≤ 2 ^ 17 = pow_mono {i = levels + 1} {j = 17} (omega arith) in
     omega (arith, power, bound)

@@ -17,6 +17,3 @@ pub use block::epoch_text;
 pub use change_lines::change_text;
 pub use changes::change;
 pub use level_count::LevelCount;
-
-#[cfg(test)]
-mod tests;

@@ -20,6 +20,3 @@ mod update_and_estimate;
 
 pub use estimate::estimate_in;
 pub use sketch::Sketch;
-
-#[cfg(test)]
-mod tests;

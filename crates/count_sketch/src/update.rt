@@ -1,5 +1,6 @@
 //! An item added to the counters of a sketch.
-ghost use Rattle.std.specs.Prelude.{◌≡◌, ◌≤◌, ◌<◌, ◌+◌, ◌*◌, ◌^◌, [], ◌∷◌, length, slice_set, slice_index_or, IsTrue, pos, ◌+ℤ◌, ◌*ℤ◌, unsigned_abs};
+ghost use Rattle.std.specs.Prelude.{◌≡◌, ◌≤◌, ◌<◌, ◌+◌, ◌*◌, ◌^◌, [], ◌∷◌, length, slice_set, slice_index_or};
+ghost use Rattle.std.specs.Prelude.{IsTrue, pos, ◌+ℤ◌, ◌*ℤ◌, unsigned_abs};
 ghost use Rattle.hash_family.specs.Hash.{sign};
 ghost use Rattle.hash_family.specs.Limits.{is_rows, is_width};
 ghost use Rattle.count_sketch.specs.Counters.{plus, counters_of, AllUpTo};

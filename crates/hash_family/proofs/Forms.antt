@@ -1,5 +1,6 @@
 -- Linear forms, summed product by product.
-use Rattle.std.proofs.Common.{◌≡◌, ℕ, ◌+◌, ◌*◌, ◌^◌, ◌%◌, ◌≤◌, ◌<◌, zero, suc, List, slice_index, take, drop, length, refl, sym, ◌∙◌, ap, arith, length-take, length-drop}
+use Rattle.std.proofs.Common.{◌≡◌, ℕ, ◌+◌, ◌*◌, ◌^◌, ◌%◌, ◌≤◌, ◌<◌, zero, suc, List, slice_index, take, drop, length}
+use Rattle.std.proofs.Common.{refl, sym, ◌∙◌, ap, arith, length-take, length-drop}
 use Rattle.std.proofs.lemmas.List.{get_or-take, get_or-drop}
 use Rattle.std.proofs.lemmas.Nat.{mod_below}
 use Rattle.hash_family.specs.Hash.{sum_below, coefficient, word, prime, hash}
@@ -34,21 +35,29 @@ pub record IsRowOf (seed function : ℕ) (row : List ℕ) : Type 0 where
   pub size : length row ≡ 12
   pub each : (i : ℕ) → i < 12 → slice_index row i ≡ coefficient seed function i
 
-pub row_of : (seed function n : ℕ) (coefficients : List ℕ) → AreOfSeed seed coefficients → function < 254 → n ≡ 12 → IsRowOf seed function (take n (drop (12 * function) coefficients))
+pub row_of : (seed function n : ℕ) (coefficients : List ℕ) → AreOfSeed seed coefficients → function < 254 → n ≡ 12
+    → IsRowOf seed function (take n (drop (12 * function) coefficients))
 row_of seed function n coefficients are below twelve = record {
   size = simp (length-take, length-drop) (omega (arith, are.size));
-  each = λ i small. get_or-take n (drop (12 * function) coefficients) i 0 (omega arith) ∙ get_or-drop (12 * function) coefficients i 0 ∙ are.each (12 * function + i) (omega arith) ∙ drawn-coefficient seed function i;
+  each = λ i small. get_or-take n (drop (12 * function) coefficients) i 0 (omega arith)
+      ∙ get_or-drop (12 * function) coefficients i 0 ∙ are.each (12 * function + i) (omega arith)
+      ∙ drawn-coefficient seed function i;
 }
 
 pub is_row : {seed function : ℕ} {row : List ℕ} → IsRowOf seed function row → IsRow row
 is_row {seed} {function} {row} of = record {
   size = of.size;
-  below = λ i small. let value = of.each i small ∙ sym (drawn-coefficient seed function i) in omega (arith, value, drawn-lt seed (12 * function + i));
+  below = λ i small. let value =
+      of.each i small ∙ sym (drawn-coefficient seed function i) in omega
+      (arith, value, drawn-lt seed (12 * function + i));
 }
 
-pub linear_form-hash : {seed function : ℕ} {row : List ℕ} (words : List ℕ) → IsRowOf seed function row → linear_form row words % prime ≡ hash seed function words
+pub linear_form-hash : {seed function : ℕ} {row : List ℕ} (words : List ℕ) → IsRowOf seed function row
+    → linear_form row words % prime ≡ hash seed function words
 unfolding linear_form hash
 linear_form-hash {seed} {function} {row} words of =
     let first = of.each 0 (omega arith) in
-    let rest = sum_below-same (λ i. slice_index row (i + 1) * slice_index words i) (λ i. coefficient seed function (i + 1) * slice_index words i) 11 (λ i small. ap (λ (a : ℕ). a * slice_index words i) (of.each (i + 1) (omega arith))) in
+    let rest = sum_below-same (λ i. slice_index row (i + 1) * slice_index words i)
+    (λ i. coefficient seed function (i + 1) * slice_index words i) 11
+    (λ i small. ap (λ (a : ℕ). a * slice_index words i) (of.each (i + 1) (omega arith))) in
     ap (λ (n : ℕ). n % prime) (omega (arith, first, rest))

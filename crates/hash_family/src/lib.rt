@@ -16,6 +16,3 @@ mod params;
 
 pub use family::Family;
 pub use params::Params;
-
-#[cfg(test)]
-mod tests;

@@ -1,7 +1,13 @@
-//! Rows of the levels of a sketch from outside, over the public calls of `sketch_levels`.
+//! Rows of the levels of a sketch from outside, over the public calls of `topk_heap` and `sketch_levels`.
 //!
-//! - `tests`: what levels keep, and which keys are noted, after a few packets and after many
+//! - `keys`: the keys of the rows
+//! - `heap`: what offers answer, and which keys a table holds
+//! - `levels`: what levels keep, and which keys are noted, after a few packets and after many
 #![tactic(auto)]
 
 #[cfg(test)]
-mod tests;
+mod heap;
+#[cfg(test)]
+mod keys;
+#[cfg(test)]
+mod levels;

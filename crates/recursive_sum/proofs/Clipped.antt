@@ -1,5 +1,6 @@
 -- Heavy keys are of level 0, with a number above 0.
-use Rattle.std.proofs.Common.{◌≡◌, ℕ, ◌<◌, ◌*◌, true, ltb, List, get_or, ℤ, pos, ◌*ℤ◌, ◌<ℤ◌, int_le, int_lt, unsigned_abs, arith}
+use Rattle.std.proofs.Common.{◌≡◌, ℕ, ◌<◌, ◌*◌, true, ltb, List, get_or, ℤ, pos, ◌*ℤ◌, ◌<ℤ◌, int_le, int_lt}
+use Rattle.std.proofs.Common.{unsigned_abs, arith}
 use Rattle.std.specs.List.{All, filter}
 use Rattle.std.proofs.lemmas.Bool.{and_parts, cond_both, ltb-true}
 use Rattle.std.proofs.lemmas.Bool.Decides.{nat_tests}
@@ -23,16 +24,20 @@ clipped_above x =
     (λ above some. grind (arith, ints, nat_tests)) (λ below some. absurd (omega (arith, some)))
 
 -- so each selected pair of a key of level 0 and its clipped estimate is heavy
-pub selected_heavy : (seed per_mille : ℕ) (total : ℤ) (view : View) → All (IsHeavy view) (filter (is_selected per_mille total) (heavy_pairs seed view))
+pub selected_heavy : (seed per_mille : ℕ) (total : ℤ) (view : View)
+    → All (IsHeavy view) (filter (is_selected per_mille total) (heavy_pairs seed view))
 unfolding heavy_pairs is_selected
 selected_heavy seed per_mille total view =
     let passes : (List ℕ × ℤ) → Type 0 = λ pair. is_selected per_mille total pair ≡ true in
     let each : All (λ (pair : List ℕ × ℤ). passes pair → IsHeavy view pair) (heavy_pairs seed view) =
-    All-map (λ (pair : List ℕ × ℤ). passes pair → IsHeavy view pair) (λ (key : List ℕ). (key, clipped (estimate_at seed view 0 key))) (keys_at view 0)
+    All-map (λ (pair : List ℕ × ℤ). passes pair → IsHeavy view pair)
+    (λ (key : List ℕ). (key, clipped (estimate_at seed view 0 key))) (keys_at view 0)
     (λ k d within great. record {
       named = Contains-get_or (keys_at view 0) k d within;
-      above = clipped_above (estimate_at seed view 0 (get_or (keys_at view 0) k d)) (great_above per_mille total _ great);
+      above = clipped_above (estimate_at seed view 0 (get_or (keys_at view 0) k d))
+          (great_above per_mille total _ great);
     }) in
     λ k d within.
-    All-filter (is_selected per_mille total) (λ (pair : List ℕ × ℤ). passes pair → IsHeavy view pair) (heavy_pairs seed view) each k d within
+    All-filter (is_selected per_mille total) (λ (pair : List ℕ × ℤ). passes pair → IsHeavy view pair)
+    (heavy_pairs seed view) each k d within
     (filter_passes (is_selected per_mille total) (heavy_pairs seed view) k d within)

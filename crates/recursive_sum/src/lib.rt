@@ -20,6 +20,3 @@ pub use laws::plain_sum;
 pub use measure::G;
 pub use ranking::select;
 pub use sum::g_sum;
-
-#[cfg(test)]
-mod tests;

@@ -20,14 +20,17 @@ any-distinct q keys = any-fold q [] keys
 abbrev names : ℕ → List ℕ → Note → Bool
 names level q note = is_live note.seed level note.key && same q note.key
 
-any-live : (level : ℕ) (q : List ℕ) (notes : List Note) → list_any (same q) (map (λ (n : Note). n.key) (filter (λ (n : Note). is_live n.seed level n.key) notes)) ≡ list_any (names level q) notes
+any-live : (level : ℕ) (q : List ℕ) (notes : List Note)
+    → list_any (same q) (map (λ (n : Note). n.key) (filter (λ (n : Note). is_live n.seed level n.key) notes)) ≡ list_any
+    (names level q) notes
 any-live level q [] = refl
 any-live level q (n ∷ notes) = elim (cases_Bool (is_live n.seed level n.key)) [
   | inl live ↦ rw live (ap (λ b. same q n.key || b) (any-live level q notes))
   | inr dead ↦ rw dead (any-live level q notes)
 ]
 
-any-live_keys : (level : ℕ) (q : List ℕ) (notes : List Note) → list_any (same q) (live_keys level notes) ≡ list_any (names level q) notes
+any-live_keys : (level : ℕ) (q : List ℕ) (notes : List Note)
+    → list_any (same q) (live_keys level notes) ≡ list_any (names level q) notes
 unfolding live_keys
 any-live_keys level q notes = any-distinct q _ ∙ any-live level q notes
 
@@ -39,11 +42,14 @@ own_key : (key : List ℕ) → same key key ≡ true
 own_key key = ap is_eq (tied_itself nat_list_cmp_total key)
 
 -- the keys of a level are those that a note names which is live there
-pub live_keys-each : (level : ℕ) (notes : List Note) (key : List ℕ) → Contains (live_keys level notes) key ↔ Any (λ note. (note.key ≡ key) × (is_live note.seed level note.key ≡ true)) notes
+pub live_keys-each : (level : ℕ) (notes : List Note) (key : List ℕ)
+    → Contains (live_keys level notes) key ↔ Any
+    (λ note. (note.key ≡ key) × (is_live note.seed level note.key ≡ true)) notes
 live_keys-each level notes key =
     let Named : Note → Type 0 = λ note. (note.key ≡ key) × (is_live note.seed level note.key ≡ true) in (
       λ held.
-          let found = sym (any-live_keys level key notes) ∙ list_any-from_Contains (eq_by_cmp_equiv nat_list_cmp_total) key (live_keys level notes) held in
+          let found = sym (any-live_keys level key notes)
+          ∙ list_any-from_Contains (eq_by_cmp_equiv nat_list_cmp_total) key (live_keys level notes) held in
           any_weaker (λ (n : Note). names level key n ≡ true) Named notes
           (λ n h. let parts = and_parts _ _ h in (sym (same_is key n.key parts.1), parts.0))
           (Any-from_list_any (names level key) notes found),

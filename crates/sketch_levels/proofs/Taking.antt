@@ -9,7 +9,8 @@ use Rattle.sketch_levels.specs.Levels.{IsLayer, Layer, Takes, layer_of}
 use Rattle.sketch_levels.proofs.Live.{live_items-dead, live_items-live}
 
 -- a greater weight
-pub IsLayer-more : (setting : Setting) (n weight : ℕ) (layer : Layer) → IsLayer setting n layer → IsLayer setting (n + weight) layer
+pub IsLayer-more : (setting : Setting) (n weight : ℕ) (layer : Layer) → IsLayer setting n layer
+    → IsLayer setting (n + weight) layer
 IsLayer-more setting n weight layer shape = record {
   rows = shape.rows;
   width = shape.width;
@@ -18,7 +19,8 @@ IsLayer-more setting n weight layer shape = record {
 }
 
 -- a level where the item's key isn't live stays
-pub takes_none : (seed level : ℕ) (item : Item) (layer : Layer) → is_live seed level item.key ≡ false → Takes seed level item layer layer
+pub takes_none : (seed level : ℕ) (item : Item) (layer : Layer) → is_live seed level item.key ≡ false
+    → Takes seed level item layer layer
 takes_none seed level item layer dead = record {
   list = λ setting items same is. is ∙ ap (layer_of setting level) (sym (live_items-dead seed level items item dead));
   shape = λ setting n shape. IsLayer-more setting n item.weight layer shape;
@@ -26,10 +28,12 @@ takes_none seed level item layer dead = record {
 
 -- a level that was fed takes the item where its key is live
 pub takes_fed : (seed level : ℕ) (item : Item) (old new : Layer) → is_live seed level item.key ≡ true
-    → ((setting : Setting) (items : List Item) → setting.seed ≡ seed → old ≡ layer_of setting level items → new ≡ layer_of setting level (items ++ item ∷ []))
+    → ((setting : Setting) (items : List Item) → setting.seed ≡ seed → old ≡ layer_of setting level items
+    → new ≡ layer_of setting level (items ++ item ∷ []))
     → ((setting : Setting) (n : ℕ) → IsLayer setting n old → IsLayer setting (n + item.weight) new)
     → Takes seed level item old new
 takes_fed seed level item old new live list shape = record {
-  list = λ setting items same is. list setting (live_items seed level items) same is ∙ ap (layer_of setting level) (sym (live_items-live seed level items item live));
+  list = λ setting items same is. list setting (live_items seed level items) same is
+      ∙ ap (layer_of setting level) (sym (live_items-live seed level items item live));
   shape = shape;
 }

@@ -15,7 +15,8 @@ or_right : (a b : Bool) → b ≡ true → (a || b) ≡ true
 or_right true b h = refl
 or_right false b h = h
 
-any-united : (q : List ℕ) (keys more : List (List ℕ)) → list_any (same q) (united keys more) ≡ (list_any (same q) keys || list_any (same q) more)
+any-united : (q : List ℕ) (keys more : List (List ℕ))
+    → list_any (same q) (united keys more) ≡ (list_any (same q) keys || list_any (same q) more)
 unfolding united
 any-united q keys more = any-fold q keys more
 
@@ -23,7 +24,8 @@ found : (q : List ℕ) (keys : List (List ℕ)) → Contains keys q → list_any
 found q keys held = list_any-from_Contains (eq_by_cmp_equiv nat_list_cmp_total) q keys held
 
 -- the keys of a union are those of either list
-pub members : (keys more : List (List ℕ)) (key : List ℕ) → Contains (united keys more) key ↔ (Contains keys key ⊎ Contains more key)
+pub members : (keys more : List (List ℕ)) (key : List ℕ)
+    → Contains (united keys more) key ↔ (Contains keys key ⊎ Contains more key)
 members keys more key =
     let one = list_any (same key) keys in
     let two = list_any (same key) more in (

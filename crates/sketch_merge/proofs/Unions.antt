@@ -21,32 +21,40 @@ unfolding united
 united-none keys = refl
 
 -- a first key that is below those of the other list stays the first
-pub united-first : (x : List ℕ) (keys more : List (List ℕ)) → IsBelow x more → united (x ∷ keys) more ≡ x ∷ united keys more
+pub united-first : (x : List ℕ) (keys more : List (List ℕ)) → IsBelow x more
+    → united (x ∷ keys) more ≡ x ∷ united keys more
 unfolding united
 united-first x keys [] below = refl
 united-first x keys (y ∷ more) below = rw (greater_back x y below.0) (united-first x (with_key keys y) more below.1)
 
-pub united-empty : (y : List ℕ) (more : List (List ℕ)) → IsStrictlySortedBy (slice_cmp nat_cmp) (y ∷ more) → united [] (y ∷ more) ≡ y ∷ united [] more
+pub united-empty : (y : List ℕ) (more : List (List ℕ)) → IsStrictlySortedBy (slice_cmp nat_cmp) (y ∷ more)
+    → united [] (y ∷ more) ≡ y ∷ united [] more
 unfolding united
 united-empty y more ascending = united-first y [] more (sorted_head (slice_cmp nat_cmp) y more ascending)
 
-pub united-less : (x y : List ℕ) (keys more : List (List ℕ)) → slice_cmp nat_cmp x y ≡ Less → IsStrictlySortedBy (slice_cmp nat_cmp) (y ∷ more) → united (x ∷ keys) (y ∷ more) ≡ x ∷ united keys (y ∷ more)
+pub united-less : (x y : List ℕ) (keys more : List (List ℕ)) → slice_cmp nat_cmp x y ≡ Less
+    → IsStrictlySortedBy (slice_cmp nat_cmp) (y ∷ more) → united (x ∷ keys) (y ∷ more) ≡ x ∷ united keys (y ∷ more)
 united-less x y keys more less ascending = united-first x keys (y ∷ more) (below_first x y more less ascending)
 
-pub united-equal : (x y : List ℕ) (keys more : List (List ℕ)) → slice_cmp nat_cmp x y ≡ Equal → IsStrictlySortedBy (slice_cmp nat_cmp) (y ∷ more) → united (x ∷ keys) (y ∷ more) ≡ x ∷ united keys more
+pub united-equal : (x y : List ℕ) (keys more : List (List ℕ)) → slice_cmp nat_cmp x y ≡ Equal
+    → IsStrictlySortedBy (slice_cmp nat_cmp) (y ∷ more) → united (x ∷ keys) (y ∷ more) ≡ x ∷ united keys more
 unfolding united
 united-equal x y keys more same ascending =
-    let below : IsBelow x more = subst (λ (k : List ℕ). IsBelow k more) (sym (exact_bytes x y same)) (sorted_head (slice_cmp nat_cmp) y more ascending) in
+    let below : IsBelow x more =
+    subst (λ (k : List ℕ). IsBelow k more) (sym (exact_bytes x y same))
+    (sorted_head (slice_cmp nat_cmp) y more ascending) in
     rw (tied_back nat_list_cmp_total x y same) (united-first x keys more below)
 
-pub united-greater : (x y : List ℕ) (keys more : List (List ℕ)) → slice_cmp nat_cmp x y ≡ Greater → IsStrictlySortedBy (slice_cmp nat_cmp) (y ∷ more) → united (x ∷ keys) (y ∷ more) ≡ y ∷ united (x ∷ keys) more
+pub united-greater : (x y : List ℕ) (keys more : List (List ℕ)) → slice_cmp nat_cmp x y ≡ Greater
+    → IsStrictlySortedBy (slice_cmp nat_cmp) (y ∷ more) → united (x ∷ keys) (y ∷ more) ≡ y ∷ united (x ∷ keys) more
 unfolding united
 united-greater x y keys more greater ascending =
     rw (less_back x y greater) (united-first y (x ∷ keys) more (sorted_head (slice_cmp nat_cmp) y more ascending))
 
 -- ---- order
 
-ascending-with_key : (keys : List (List ℕ)) (key : List ℕ) → IsStrictlySortedBy (slice_cmp nat_cmp) keys → IsStrictlySortedBy (slice_cmp nat_cmp) (with_key keys key)
+ascending-with_key : (keys : List (List ℕ)) (key : List ℕ) → IsStrictlySortedBy (slice_cmp nat_cmp) keys
+    → IsStrictlySortedBy (slice_cmp nat_cmp) (with_key keys key)
 unfolding IsStrictlySortedBy
 ascending-with_key [] key ascending = (tt, tt)
 ascending-with_key (x ∷ keys) key ascending =
@@ -55,13 +63,16 @@ ascending-with_key (x ∷ keys) key ascending =
     (λ less. rw less (below_first key x keys less ascending, ascending))
     (λ same. rw same ascending)
     (λ greater.
-    let all = All-insert_key (slice_cmp nat_cmp) key (Above x) keys (All-from_recursion (Above x) keys ascending.0) (less_back key x greater) in
+    let all = All-insert_key (slice_cmp nat_cmp) key (Above x) keys (All-from_recursion (Above x) keys ascending.0)
+    (less_back key x greater) in
     rw greater (recursion_from_All (Above x) (with_key keys key) all, ascending-with_key keys key ascending.1))
 
-pub ascending-united : (keys more : List (List ℕ)) → IsStrictlySortedBy (slice_cmp nat_cmp) keys → IsStrictlySortedBy (slice_cmp nat_cmp) (united keys more)
+pub ascending-united : (keys more : List (List ℕ)) → IsStrictlySortedBy (slice_cmp nat_cmp) keys
+    → IsStrictlySortedBy (slice_cmp nat_cmp) (united keys more)
 unfolding united
 ascending-united keys [] ascending = ascending
-ascending-united keys (key ∷ more) ascending = ascending-united (with_key keys key) more (ascending-with_key keys key ascending)
+ascending-united keys (key ∷ more) ascending =
+    ascending-united (with_key keys key) more (ascending-with_key keys key ascending)
 
 -- ---- length
 
@@ -79,7 +90,9 @@ length-united keys (key ∷ more) = omega (arith, length-united (with_key keys k
 
 -- ---- what is left of a list
 
-pub ascending-drop : (n : ℕ) (keys : List (List ℕ)) → IsStrictlySortedBy (slice_cmp nat_cmp) keys → IsStrictlySortedBy (slice_cmp nat_cmp) (drop n keys)
+pub ascending-drop : (n : ℕ) (keys : List (List ℕ)) → IsStrictlySortedBy (slice_cmp nat_cmp) keys
+    → IsStrictlySortedBy (slice_cmp nat_cmp) (drop n keys)
 ascending-drop zero keys ascending = ascending
 ascending-drop (suc n) [] ascending = ascending
-ascending-drop (suc n) (key ∷ keys) ascending = ascending-drop n keys (sorted_tail (slice_cmp nat_cmp) key keys ascending)
+ascending-drop (suc n) (key ∷ keys) ascending =
+    ascending-drop n keys (sorted_tail (slice_cmp nat_cmp) key keys ascending)

@@ -29,10 +29,16 @@ few_counters levels rows width heap within = grind (arith, nat_tests)
 
 -- a greater bound of each level
 pub AllUpTo-more_each : (n m : ℕ) (levels : List (List ℤ)) → n ≤ m → All (AllUpTo n) levels → All (AllUpTo m) levels
-AllUpTo-more_each n m levels more small = All-weaker (AllUpTo n) (AllUpTo m) (λ level all. AllUpTo-more n m level more all) levels small
+AllUpTo-more_each n m levels more small =
+    All-weaker (AllUpTo n) (AllUpTo m) (λ level all. AllUpTo-more n m level more all) levels small
 
 -- of levels that are cut from a list of counters
-pub IsView-levels : (view : View) (counters : List ℤ) → IsTrue (are_within view.setting.levels view.setting.rows view.setting.width view.setting.heap) → view.counters ≡ levels_of (view.setting.levels + 1) (view.setting.rows * view.setting.width) counters → length counters ≡ (view.setting.levels + 1) * (view.setting.rows * view.setting.width) → AllUpTo view.weight counters → view.weight ≤ 2 ^ 44 → length view.keys ≡ view.setting.levels + 1 → All (IsStrictlySortedBy (slice_cmp nat_cmp)) view.keys → IsView view
+pub IsView-levels : (view : View) (counters : List ℤ)
+    → IsTrue (are_within view.setting.levels view.setting.rows view.setting.width view.setting.heap)
+    → view.counters ≡ levels_of (view.setting.levels + 1) (view.setting.rows * view.setting.width) counters
+    → length counters ≡ (view.setting.levels + 1) * (view.setting.rows * view.setting.width)
+    → AllUpTo view.weight counters → view.weight ≤ 2 ^ 44 → length view.keys ≡ view.setting.levels + 1
+    → All (IsStrictlySortedBy (slice_cmp nat_cmp)) view.keys → IsView view
 IsView-levels view counters within cut whole small light key_levels ascending =
     let levels = view.setting.levels + 1 in
     let size = view.setting.rows * view.setting.width in
@@ -40,7 +46,8 @@ IsView-levels view counters within cut whole small light key_levels ascending =
       within = within;
       levels = ap length cut ∙ length-levels_of levels size counters;
       key_levels = key_levels;
-      shape = subst (All (λ (level : List ℤ). length level ≡ size)) (sym cut) (shape-levels_of levels size counters whole);
+      shape = subst (All (λ (level : List ℤ). length level ≡ size)) (sym cut)
+          (shape-levels_of levels size counters whole);
       small = subst (All (AllUpTo (2 ^ 45))) (sym cut)
           (AllUpTo-more_each view.weight (2 ^ 45) (levels_of levels size counters) (omega arith) bound);
       ascending = ascending;
@@ -52,28 +59,48 @@ pub record IsDifference (of less view : View) : Type 0 where
   pub counters : view.counters ≡ zip2 minus of.counters less.counters
   pub keys : view.keys ≡ zip2 united of.keys less.keys
 
-pub IsView-difference : (of less view : View) → IsDifference of less view → of.setting ≡ less.setting → IsView of → IsView less → All (AllUpTo (2 ^ 44)) of.counters → All (AllUpTo (2 ^ 44)) less.counters → IsView view
+pub IsView-difference : (of less view : View) → IsDifference of less view → of.setting ≡ less.setting → IsView of
+    → IsView less → All (AllUpTo (2 ^ 44)) of.counters → All (AllUpTo (2 ^ 44)) less.counters → IsView view
 IsView-difference of less view is same first second small other_small =
     let size : ℕ = of.setting.rows * of.setting.width in
     let Shaped : List ℤ → Type 0 = λ level. length level ≡ size in
-    let others_shape : All Shaped less.counters = subst (λ (s : Setting). All (λ (level : List ℤ). length level ≡ s.rows * s.width) less.counters) (sym same) second.shape in
-    let number : length less.counters ≡ of.setting.levels + 1 = second.levels ∙ ap (λ (s : Setting). s.levels + 1) (sym same) in
-    let key_number : length less.keys ≡ of.setting.levels + 1 = second.key_levels ∙ ap (λ (s : Setting). s.levels + 1) (sym same) in
+    let others_shape : All Shaped less.counters =
+    subst (λ (s : Setting). All (λ (level : List ℤ). length level ≡ s.rows * s.width) less.counters)
+    (sym same) second.shape in
+    let number : length less.counters ≡ of.setting.levels + 1 =
+    second.levels ∙ ap (λ (s : Setting). s.levels + 1) (sym same) in
+    let key_number : length less.keys ≡ of.setting.levels + 1 =
+    second.key_levels ∙ ap (λ (s : Setting). s.levels + 1) (sym same) in
     let counters : List (List ℤ) = zip2 minus of.counters less.counters in
     let keys : List (List (List ℕ)) = zip2 united of.keys less.keys in
-    let whole : IsView (record { setting = of.setting; weight = view.weight; counters = counters; keys = keys; dropped = view.dropped }) = record {
+    let whole : IsView
+    (record { setting = of.setting; weight = view.weight; counters = counters; keys = keys; dropped = view.dropped }) =
+    record {
       within = first.within;
       levels = length-zip2 minus of.counters less.counters (first.levels ∙ sym number) ∙ first.levels;
       key_levels = length-zip2 united of.keys less.keys (first.key_levels ∙ sym key_number) ∙ first.key_levels;
-      shape = All-zip2 Shaped Shaped Shaped minus (λ xs ys a b. length-zip2 ◌-ℤ◌ xs ys (a ∙ sym b) ∙ a) of.counters less.counters first.shape others_shape;
-      small = All-zip2 (AllUpTo (2 ^ 44)) (AllUpTo (2 ^ 44)) (AllUpTo (2 ^ 45)) minus (small-minus (2 ^ 44) (2 ^ 44)) of.counters less.counters small other_small;
-      ascending = All-zip2 (IsStrictlySortedBy (slice_cmp nat_cmp)) (IsStrictlySortedBy (slice_cmp nat_cmp)) (IsStrictlySortedBy (slice_cmp nat_cmp)) united (λ xs ys a b. ascending-united xs ys a) of.keys less.keys first.ascending second.ascending;
+      shape = All-zip2 Shaped Shaped Shaped minus
+          (λ xs ys a b. length-zip2 ◌-ℤ◌ xs ys (a ∙ sym b) ∙ a) of.counters less.counters first.shape others_shape;
+      small = All-zip2 (AllUpTo (2 ^ 44)) (AllUpTo (2 ^ 44)) (AllUpTo (2 ^ 45)) minus
+          (small-minus (2 ^ 44) (2 ^ 44)) of.counters less.counters small other_small;
+      ascending = All-zip2 (IsStrictlySortedBy (slice_cmp nat_cmp)) (IsStrictlySortedBy (slice_cmp nat_cmp))
+          (IsStrictlySortedBy (slice_cmp nat_cmp)) united
+          (λ xs ys a b. ascending-united xs ys a) of.keys less.keys first.ascending second.ascending;
     } in
-    subst IsView (λ i. record { setting = sym is.setting i; weight = view.weight; counters = sym is.counters i; keys = sym is.keys i; dropped = view.dropped }) whole
+    subst IsView (λ i. record {
+      setting = sym is.setting i;
+      weight = view.weight;
+      counters = sym is.counters i;
+      keys =
+          sym is.keys i;
+      dropped = view.dropped;
+    }) whole
 
 -- no level of a union has more keys than both together
-pub HaveUpTo-united : (n m : ℕ) (keys more : List (List (List ℕ))) → HaveUpTo n keys → HaveUpTo m more → HaveUpTo (n + m) (zip2 united keys more)
+pub HaveUpTo-united : (n m : ℕ) (keys more : List (List (List ℕ))) → HaveUpTo n keys → HaveUpTo m more
+    → HaveUpTo (n + m) (zip2 united keys more)
 HaveUpTo-united n m keys more first second = record {
-  each = All-zip2 (λ (level : List (List ℕ)). length level ≤ n) (λ (level : List (List ℕ)). length level ≤ m) (λ (level : List (List ℕ)). length level ≤ n + m) united
+  each = All-zip2 (λ (level : List (List ℕ)). length level ≤ n) (λ (level : List (List ℕ)). length level ≤ m)
+      (λ (level : List (List ℕ)). length level ≤ n + m) united
       (λ xs ys a b. omega (arith, length-united xs ys, a, b)) keys more first.each second.each;
 }

@@ -17,6 +17,3 @@ mod union;
 
 pub use laws::united_keys_law;
 pub use merged::Merged;
-
-#[cfg(test)]
-mod tests;

@@ -33,16 +33,23 @@ no_other : (w key : List ℕ) → is_eq (slice_cmp nat_cmp w key) ≡ false → 
 no_other w key differs held = let e = own_key w in let k = rw (sym (the_one w key held)) at differs in cc
 
 -- the offered key is refused exactly where it is dropped, and another is named exactly where it is
-pub answer_refused : (key : List ℕ) (dropped : Option (List ℕ)) → (answer_of key (option_to_list dropped) ≡ Refused) ↔ Contains (option_to_list dropped) key
+pub answer_refused : (key : List ℕ) (dropped : Option (List ℕ))
+    → (answer_of key (option_to_list dropped) ≡ Refused) ↔ Contains (option_to_list dropped) key
 answer_refused key None = (λ h. cc, λ held. absurd (none_held key held))
 answer_refused key (Some w) = elim (cases_Bool (is_eq (slice_cmp nat_cmp w key))) [
   | inl same ↦ rw same (λ _. is_one w key (same_key w key same), λ _. refl)
   | inr differs ↦ rw differs (λ h. cc, λ held. absurd (no_other w key differs held))
 ]
 
-pub answer_dropping : (key : List ℕ) (dropped : Option (List ℕ)) (y : List ℕ) → (answer_of key (option_to_list dropped) ≡ KeptDropping y) ↔ ((y ≢ key) × Contains (option_to_list dropped) y)
+pub answer_dropping : (key : List ℕ) (dropped : Option (List ℕ)) (y : List ℕ)
+    → (answer_of key (option_to_list dropped) ≡ KeptDropping y) ↔ ((y ≢ key) × Contains (option_to_list dropped) y)
 answer_dropping key None y = (λ h. cc, λ held. absurd (none_held y held.1))
 answer_dropping key (Some w) y = elim (cases_Bool (is_eq (slice_cmp nat_cmp w key))) [
   | inl same ↦ rw same (λ h. cc, λ held. absurd (held.0 (sym (the_one w y held.1) ∙ same_key w key same)))
-  | inr differs ↦ rw differs (λ h. let e : w ≡ y = cc in (λ same. absurd (no_other w key differs (is_one w key (e ∙ same))), is_one w y e), λ held. ap KeptDropping (the_one w y held.1))
+  | inr differs ↦ rw differs (
+    λ h. let e : w ≡ y =
+        cc in (λ same. absurd (no_other w key differs (is_one w key (e ∙ same))), is_one w y e),
+    λ held. ap KeptDropping
+        (the_one w y held.1),
+  )
 ]

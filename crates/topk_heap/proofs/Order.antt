@@ -4,14 +4,16 @@ use Rattle.std.specs.Cmp.{IsTotalOrder}
 use Rattle.std.specs.declared.cmp.Ordering.{Ordering}
 use Rattle.std.specs.declared.cmp.Ordering.TheVariants.{Less, Equal, Greater}
 use Rattle.std.specs.Ordering.{is_lt, int_cmp, ordering_then, ordering_reverse}
-use Rattle.std.proofs.lemmas.Cmp.{then_total, back_total, on_total, int_cmp_total, nat_list_cmp_total, tied_itself, tied_back}
+use Rattle.std.proofs.lemmas.Cmp.{then_total, back_total, on_total, int_cmp_total, nat_list_cmp_total, tied_itself}
+use Rattle.std.proofs.lemmas.Cmp.{tied_back}
 use Rattle.topk_heap.specs.Ranking.{rank_cmp, key_cmp, ranks_before}
 use Rattle.topk_heap.specs.declared.entry.Entry.{Entry}
 
 -- both are total
 pub rank_total : IsTotalOrder rank_cmp
 rank_total =
-    then_total (back_total (on_total (λ (e : Entry). e.score) int_cmp_total)) (on_total (λ (e : Entry). e.key) nat_list_cmp_total)
+    then_total (back_total (on_total (λ (e : Entry). e.score) int_cmp_total))
+    (on_total (λ (e : Entry). e.key) nat_list_cmp_total)
 
 pub key_total : IsTotalOrder key_cmp
 key_total = on_total (λ (e : Entry). e.key) nat_list_cmp_total
@@ -33,7 +35,8 @@ not_is_lt Greater h = refl
 -- what ranks behind x and isn't ahead of z
 pub not_before_more : (x y z : Entry) → ranks_before x y ≡ true → ranks_before x z ≡ false → ranks_before y z ≡ false
 not_before_more x y z first behind =
-    not_is_lt (rank_cmp y z) (λ less. let e = ap is_lt (rank_total.trans x y z (less_from_is_lt (rank_cmp x y) first) less) in cc)
+    not_is_lt (rank_cmp y z)
+    (λ less. let e = ap is_lt (rank_total.trans x y z (less_from_is_lt (rank_cmp x y) first) less) in cc)
 
 second_equal : (o p : Ordering) → ordering_then o p ≡ Equal → p ≡ Equal
 second_equal Less p h = cc
@@ -64,16 +67,22 @@ last_of_one entries = record {
 }
 
 -- one more entry, which the last one doesn't rank before, or does
-pub last_stays : (entries : List Entry) (place upto : ℕ) → IsLastSoFar entries place upto → ((d : Entry) → ranks_before (get_or entries place d) (get_or entries upto d) ≡ false) → IsLastSoFar entries place (upto + 1)
+pub last_stays : (entries : List Entry) (place upto : ℕ) → IsLastSoFar entries place upto
+    → ((d : Entry) → ranks_before (get_or entries place d) (get_or entries upto d) ≡ false)
+    → IsLastSoFar entries place (upto + 1)
 last_stays entries place upto so_far next = record {
   within = omega (arith, so_far.within);
-  last = λ k d below. below_more (λ (j : ℕ). ranks_before (get_or entries place d) (get_or entries j d) ≡ false) _ (λ j under. so_far.last j d under) (next d) k below;
+  last = λ k d below. below_more (λ (j : ℕ). ranks_before (get_or entries place d) (get_or entries j d) ≡ false) _
+      (λ j under. so_far.last j d under) (next d) k below;
 }
 
-pub last_moves : (entries : List Entry) (place upto : ℕ) → IsLastSoFar entries place upto → ((d : Entry) → ranks_before (get_or entries place d) (get_or entries upto d) ≡ true) → IsLastSoFar entries upto (upto + 1)
+pub last_moves : (entries : List Entry) (place upto : ℕ) → IsLastSoFar entries place upto
+    → ((d : Entry) → ranks_before (get_or entries place d) (get_or entries upto d) ≡ true)
+    → IsLastSoFar entries upto (upto + 1)
 last_moves entries place upto so_far next = record {
   within = omega arith;
   last = λ k d below. below_more (λ (j : ℕ). ranks_before (get_or entries upto d) (get_or entries j d) ≡ false) _
-      (λ j under. not_before_more (get_or entries place d) (get_or entries upto d) (get_or entries j d) (next d) (so_far.last j d under))
+      (λ j under. not_before_more (get_or entries place d) (get_or entries upto d) (get_or entries j d) (next d)
+      (so_far.last j d under))
       (not_before_itself (get_or entries upto d)) k below;
 }

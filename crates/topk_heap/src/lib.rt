@@ -19,6 +19,3 @@ mod top;
 pub use entry::Entry;
 pub use offer::Offer;
 pub use top::TopK;
-
-#[cfg(test)]
-mod tests;

@@ -9,4 +9,6 @@ loop-row-preserved c =
     let says = to_z-of_z w64 _ fits ∙ c.row_says.ensures in
     let most = is_rows-le c.args.rows c.requires.rows in
     let below : c.loop-row.row < 7 = omega arith in
-    rw (says, c.from.ensures) (filled_more c.args.family.now c.args.level c.args.width c.args.counters.now c.args.key.now c.loop-row.found c.loop-row.row below c.loop-row.invariant)
+    rw (says, c.from.ensures)
+    (filled_more c.args.family.now c.args.level c.args.width c.args.counters.now c.args.key.now c.loop-row.found
+    c.loop-row.row below c.loop-row.invariant)

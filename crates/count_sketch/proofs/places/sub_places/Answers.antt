@@ -16,4 +16,5 @@ returns c =
     let old = c.args.numbers.now in
     let others = c.args.others.now in
     let all : c.loop-i.i ≡ length old = omega arith in
-    joined_all ◌-ℤ◌ old others _ c.requires.shape (subst (λ (n : ℕ). Joined ◌-ℤ◌ old others c.loop-i.numbers n) all c.loop-i.invariant)
+    joined_all ◌-ℤ◌ old others _ c.requires.shape
+    (subst (λ (n : ℕ). Joined ◌-ℤ◌ old others c.loop-i.numbers n) all c.loop-i.invariant)

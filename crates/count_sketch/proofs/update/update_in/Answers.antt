@@ -10,5 +10,7 @@ pub returns : goal.returns
 returns c =
     let item : Item = record { key = c.args.key.now; weight = c.args.weight } in
     let all : c.loop-row.row ≡ c.args.rows = omega arith in
-    added_all c.args.family.now c.args.level c.args.rows c.args.width item c.args.counters.now c.loop-row.counters c.requires.shape
-    (subst (λ (n : ℕ). AddedTo c.args.family.now c.args.level c.args.width item c.args.counters.now c.loop-row.counters n) all c.loop-row.invariant)
+    added_all c.args.family.now c.args.level c.args.rows c.args.width item c.args.counters.now c.loop-row.counters
+    c.requires.shape
+    (subst (λ (n : ℕ). AddedTo c.args.family.now c.args.level c.args.width item c.args.counters.now c.loop-row.counters
+    n) all c.loop-row.invariant)

@@ -5,17 +5,30 @@ use Rattle.count_sketch.proofs.Estimates.{is_rows-le, is_rows-odd}
 use Rattle.count_sketch.proofs.update_and_estimate.update_and_estimate_in.Goals as goal
 
 pub middle_of-requires : goal.middle_of-requires
-middle_of-requires c = (c.args.rows / 2, omega (arith, is_rows-le c.args.rows c.requires.rows, is_rows-odd c.args.rows c.requires.rows, c.from.ensures, length-take c.from.result c.update_and_fill.new.found))
+middle_of-requires c = (
+  c.args.rows / 2,
+  omega (
+    arith,
+    is_rows-le c.args.rows c.requires.rows,
+    is_rows-odd c.args.rows c.requires.rows,
+    c.from.ensures,
+    length-take
+        c.from.result c.update_and_fill.new.found,
+  ),
+)
 
 pub returns-clause-value : goal.returns-clause-value
 unfolding estimate
 returns-clause-value c =
     let fits : FitsSigned w64 c.middle_of.result = search rules in
-    to_z-of_z w64 _ fits ∙ c.middle_of.ensures.value ∙ ap middle (ap (λ (n : ℕ). take n c.update_and_fill.new.found) c.from.ensures ∙ c.update_and_fill.ensures.found)
+    to_z-of_z w64 _ fits ∙ c.middle_of.ensures.value
+    ∙ ap middle (ap (λ (n : ℕ). take n c.update_and_fill.new.found) c.from.ensures ∙ c.update_and_fill.ensures.found)
 
 pub returns-clause-middle : goal.returns-clause-middle
 returns-clause-middle c =
     let fits : FitsSigned w64 c.middle_of.result = search rules in
     let says = ap (λ (n : ℕ). take n c.update_and_fill.new.found) c.from.ensures ∙ c.update_and_fill.ensures.found in
-    let all = row_estimates c.args.family.now c.args.level c.args.rows c.args.width c.update_and_fill.new.counters c.args.key.now in
-    subst (λ (x : ℤ). IsMiddle all x) (sym (to_z-of_z w64 _ fits)) (subst (λ (xs : List ℤ). IsMiddle xs c.middle_of.result) says c.middle_of.ensures.middle)
+    let all = row_estimates c.args.family.now c.args.level c.args.rows c.args.width c.update_and_fill.new.counters
+    c.args.key.now in
+    subst (λ (x : ℤ). IsMiddle all x) (sym (to_z-of_z w64 _ fits))
+    (subst (λ (xs : List ℤ). IsMiddle xs c.middle_of.result) says c.middle_of.ensures.middle)

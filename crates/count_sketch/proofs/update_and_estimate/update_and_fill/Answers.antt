@@ -17,5 +17,7 @@ pub returns-clause-next : goal.returns-clause-next
 returns-clause-next c =
     let item : Item = record { key = c.args.key.now; weight = c.args.weight } in
     let all : c.loop-row.row ≡ c.args.rows = omega arith in
-    added_all c.args.family.now c.args.level c.args.rows c.args.width item c.args.counters.now c.loop-row.counters c.requires.shape
-    (subst (λ (n : ℕ). AddedTo c.args.family.now c.args.level c.args.width item c.args.counters.now c.loop-row.counters n) all c.loop-row.invariant.added)
+    added_all c.args.family.now c.args.level c.args.rows c.args.width item c.args.counters.now c.loop-row.counters
+    c.requires.shape
+    (subst (λ (n : ℕ). AddedTo c.args.family.now c.args.level c.args.width item c.args.counters.now c.loop-row.counters
+    n) all c.loop-row.invariant.added)

@@ -8,4 +8,5 @@ pub returns : goal.returns
 unfolding stream_at seed_bytes
 returns c =
     c.from_seed.ensures
-    ∙ ap (λ (bytes : List ℕ). of_seed (bytes ++ replicate 24 0)) (c.copy_from_slice.ensures.after ∙ c.to_le_bytes.ensures)
+    ∙ ap (λ (bytes : List ℕ). of_seed (bytes ++ replicate 24 0))
+    (c.copy_from_slice.ensures.after ∙ c.to_le_bytes.ensures)

@@ -8,14 +8,17 @@ use Rattle.recursive_sum.proofs.heavy_keys.clipped_estimates.Goals as goal
 abbrev counted : goal.After-loop-key → List ℕ → ℤ
 counted c key = clipped (estimate_at c.args.family.now c.args.merged.now 0 key)
 
-all : (c : goal.After-loop-key) → c.loop-key.pairs.items ≡ map (λ (key : List ℕ). (key, counted c key)) c.keys-keys.result.now
+all : (c : goal.After-loop-key)
+    → c.loop-key.pairs.items ≡ map (λ (key : List ℕ). (key, counted c key)) c.keys-keys.result.now
 all c =
     let ended : length c.keys-keys.result.now ≤ c.loop-key.key-index = c.loop-key-test.false in
-    c.loop-key.invariant ∙ ap (map (λ (key : List ℕ). (key, counted c key))) (take_all c.loop-key.key-index c.keys-keys.result.now ended)
+    c.loop-key.invariant
+    ∙ ap (map (λ (key : List ℕ). (key, counted c key))) (take_all c.loop-key.key-index c.keys-keys.result.now ended)
 
 pub returns-clause-value : goal.returns-clause-value
 unfolding heavy_pairs
 returns-clause-value c = all c ∙ ap (map (λ (key : List ℕ). (key, counted c key))) c.keys-keys.ensures.value
 
 pub returns-clause-distinct : goal.returns-clause-distinct
-returns-clause-distinct c = subst HaveOwnKeys (sym (all c)) (paired_keys (counted c) c.keys-keys.result.now c.keys-keys.ensures.ascending)
+returns-clause-distinct c =
+    subst HaveOwnKeys (sym (all c)) (paired_keys (counted c) c.keys-keys.result.now c.keys-keys.ensures.ascending)

@@ -4,4 +4,6 @@ use Rattle.recursive_sum.specs.Sum.{estimate_at}
 use Rattle.recursive_sum.proofs.heavy_keys.clipped_estimates.Given as goal
 
 abbrev pub invariant-loop-key : goal.invariant-loop-key
-invariant-loop-key l = l.pairs.items ≡ map (λ (key : List ℕ). (key, clipped (estimate_at l.family l.merged 0 key))) (take l.key-index l.keys)
+invariant-loop-key l =
+    l.pairs.items ≡ map (λ (key : List ℕ). (key, clipped (estimate_at l.family l.merged 0 key)))
+    (take l.key-index l.keys)

@@ -12,12 +12,15 @@ use Rattle.recursive_sum.proofs.ranking.sort_by_rank.Goals as goal
 strict : (c : goal.In-Ok) → IsStrictlySortedBy by_rank c.sort_by.new.self
 strict c =
     strictly_from_sorted by_rank_total _
-    (c.in-Ok.ensures.sorted (λ a b. is_lt (by_rank a b)) (ranks_by by_rank_total (λ pair. pair)) (always_returns_same _ _ _ (λ a r f k. search rules)))
-    (IsDistinct-IsPermutation (eq_by_cmp by_rank) (eq_by_cmp_equiv by_rank_total).symm _ _ c.in-Ok.ensures.permutation (ranks_distinct _ c.requires.distinct))
+    (c.in-Ok.ensures.sorted (λ a b. is_lt (by_rank a b)) (ranks_by by_rank_total (λ pair. pair))
+    (always_returns_same _ _ _ (λ a r f k. search rules)))
+    (IsDistinct-IsPermutation (eq_by_cmp by_rank) (eq_by_cmp_equiv by_rank_total).symm _ _ c.in-Ok.ensures.permutation
+    (ranks_distinct _ c.requires.distinct))
 
 pub returns-in-Ok-clause-order : goal.returns-in-Ok-clause-order
 returns-in-Ok-clause-order c = strict c
 
 pub returns-in-Ok-clause-value : goal.returns-in-Ok-clause-value
 unfolding in_order
-returns-in-Ok-clause-value c = fold_is by_rank_total _ _ (ranks_distinct _ c.requires.distinct) c.in-Ok.ensures.permutation (strict c)
+returns-in-Ok-clause-value c =
+    fold_is by_rank_total _ _ (ranks_distinct _ c.requires.distinct) c.in-Ok.ensures.permutation (strict c)

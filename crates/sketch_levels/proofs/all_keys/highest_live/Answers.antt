@@ -9,12 +9,14 @@ loop-level-init c = λ below within. live_at_0 _ below _ (omega arith)
 
 pub returns-then-not-sample-clause-dead : goal.returns-then-not-sample-clause-dead
 returns-then-not-sample-clause-dead c = λ level within above.
-    dead_from c.args.family.now c.loop-level.level level c.args.key.now (omega arith) (sym c.sample.ensures.value ∙ c.if-not-sample.true)
+    dead_from c.args.family.now c.loop-level.level level c.args.key.now (omega arith)
+    (sym c.sample.ensures.value ∙ c.if-not-sample.true)
 
 pub loop-level-preserved : goal.loop-level-preserved
 loop-level-preserved c = λ below within. elim (cases_lt c.loop-level.level below) [
   | inl above ↦
       let e : below ≡ c.loop-level.level + 1 = omega arith in
-      rw e (live_on c.args.family.now c.loop-level.level c.args.key.now (c.loop-level.invariant c.loop-level.level (omega arith)) (sym c.sample.ensures.value ∙ c.if-not-sample.false))
+      rw e (live_on c.args.family.now c.loop-level.level c.args.key.now
+      (c.loop-level.invariant c.loop-level.level (omega arith)) (sym c.sample.ensures.value ∙ c.if-not-sample.false))
   | inr under ↦ c.loop-level.invariant below under
 ]

@@ -6,7 +6,8 @@ use Rattle.sketch_levels.proofs.Live.{live_items-dead, live_items-live, live_ite
 use Rattle.sketch_levels.proofs.laws.kept_keys_law.Goals as goal
 
 pub returns-clause-none : goal.returns-clause-none
-returns-clause-none c = λ setting level. ap (kept setting level) (live_items-none setting.seed level) ∙ kept-none setting level
+returns-clause-none c =
+    λ setting level. ap (kept setting level) (live_items-none setting.seed level) ∙ kept-none setting level
 
 pub returns-clause-live : goal.returns-clause-live
 returns-clause-live c = λ setting level items item live.

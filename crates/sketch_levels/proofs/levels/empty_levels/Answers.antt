@@ -10,7 +10,11 @@ loop-preserved c =
     let P : Layer → Type 0 = λ layer. (level : ℕ) → layer ≡ layer_of setting level [] in
     let items : c.push.new.self.items ≡ c.loop.levels.items ++ c.in_ok-level.level ∷ [] = search rules in
     record {
-      number = rw items (omega (arith, length-append c.loop.levels.items (c.in_ok-level.level ∷ []), c.loop.invariant.number));
-      empty = rw items (All-push P c.loop.levels.items c.in_ok-level.level c.loop.invariant.empty c.in_ok-level.ensures.empty);
-      shape = rw items (All-push (IsLayer setting 0) c.loop.levels.items c.in_ok-level.level c.loop.invariant.shape c.in_ok-level.ensures.shape);
+      number = rw items
+          (omega (arith, length-append c.loop.levels.items (c.in_ok-level.level ∷ []), c.loop.invariant.number));
+      empty = rw items (All-push P c.loop.levels.items c.in_ok-level.level c.loop.invariant.empty
+          c.in_ok-level.ensures.empty);
+      shape = rw items (All-push
+          (IsLayer setting 0) c.loop.levels.items c.in_ok-level.level c.loop.invariant.shape
+          c.in_ok-level.ensures.shape);
     }

@@ -14,12 +14,15 @@ pub returns-then-not-takes : goal.returns-then-not-takes
 returns-then-not-takes c = record {
   each = λ level d within. elim (cases_lt level c.loop-number.number) [
     | inl below ↦ c.loop-number.invariant.fed level d below
-    | inr above ↦ rw (c.loop-number.invariant.rest level d above) (takes_none _ _ _ _ (c.takes.ensures.dead c.if-not-takes.true level above))
+    | inr above ↦ rw (c.loop-number.invariant.rest level d above)
+        (takes_none _ _ _ _ (c.takes.ensures.dead c.if-not-takes.true level above))
   ];
 }
 
 -- the level before the call
-old_is : (c : goal.After-feed) (d : Layer) → get_or c.loop-number.levels c.loop-number.number c.index-levels-number.result ≡ get_or c.args.levels.now c.loop-number.number d
+old_is : (c : goal.After-feed) (d : Layer)
+    → get_or c.loop-number.levels c.loop-number.number c.index-levels-number.result
+    ≡ get_or c.args.levels.now c.loop-number.number d
 old_is c d =
     get_or_default c.loop-number.levels c.loop-number.number c.index-levels-number.result d (omega arith)
     ∙ c.loop-number.invariant.rest c.loop-number.number d (omega arith)
@@ -27,18 +30,23 @@ old_is c d =
 live : (c : goal.After-feed) → is_live c.args.family.now c.loop-number.number c.args.key.now ≡ true
 live c = c.takes.ensures.live c.if-not-takes.false c.loop-number.invariant.live
 
-here : (c : goal.After-feed) (d : Layer) → Takes c.args.family.now c.loop-number.number (item c) (get_or c.args.levels.now c.loop-number.number d) c.feed.new.self
+here : (c : goal.After-feed) (d : Layer)
+    → Takes c.args.family.now c.loop-number.number (item c)
+    (get_or c.args.levels.now c.loop-number.number d) c.feed.new.self
 here c d = takes_fed _ _ (item c) _ c.feed.new.self (live c)
     (λ setting items same is. c.feed.ensures.list setting items same (old_is c d ∙ is))
-    (λ setting n shape. c.feed.ensures.shape setting n (subst (λ (l : Layer). IsLayer setting n l) (sym (old_is c d)) shape))
+    (λ setting n shape. c.feed.ensures.shape setting n
+    (subst (λ (l : Layer). IsLayer setting n l) (sym (old_is c d)) shape))
 
 pub loop-number-preserved : goal.loop-number-preserved
 loop-number-preserved c = record {
   live = below_more _ _ c.loop-number.invariant.live (live c);
   fed = λ level d below. below_more
-      (λ (k : ℕ). Takes c.args.family.now k (item c) (get_or c.args.levels.now k d) (get_or (set c.loop-number.levels c.loop-number.number c.feed.new.self) k d))
+      (λ (k : ℕ). Takes c.args.family.now k (item c) (get_or c.args.levels.now k d)
+      (get_or (set c.loop-number.levels c.loop-number.number c.feed.new.self) k d))
       c.loop-number.number
-      (λ k under. rw (get_or-set_other c.loop-number.levels c.loop-number.number k c.feed.new.self d (λ e. omega arith)) (c.loop-number.invariant.fed k d under))
+      (λ k under. rw (get_or-set_other c.loop-number.levels c.loop-number.number k c.feed.new.self d (λ e. omega arith))
+      (c.loop-number.invariant.fed k d under))
       (rw (get_or-set_same c.loop-number.levels c.loop-number.number c.feed.new.self d (omega arith)) (here c d))
       level below;
   rest = λ level d above.

@@ -13,8 +13,10 @@ loop-preserved c =
     let next : ℕ = c.args.levels - (c.loop.counter + 1) in
     let more : left ≡ next + 1 = omega arith in
     rw items (record {
-      left = left_more left next c.args.size c.loop.rest.now c.split_at.result.1.now more c.loop.invariant.left c.split_at.ensures.back_len;
-      done = cut_more view c.loop.all.items c.in_ok-level.level left next c.args.size c.loop.rest.now c.split_at.result.1.now
+      left = left_more left next c.args.size c.loop.rest.now c.split_at.result.1.now more c.loop.invariant.left
+          c.split_at.ensures.back_len;
+      done = cut_more view c.loop.all.items c.in_ok-level.level left next c.args.size c.loop.rest.now
+          c.split_at.result.1.now
           (levels_of c.args.levels c.args.size c.args.counters.now) more
           (c.in_ok-level.ensures.value ∙ c.split_at.ensures.front) c.split_at.ensures.back c.loop.invariant.done;
     })

@@ -4,4 +4,6 @@ use Rattle.sketch_merge.specs.Merged.{united}
 use Rattle.sketch_merge.proofs.union.unions.Given as goal
 
 abbrev pub invariant-loop-i : goal.invariant-loop-i
-invariant-loop-i l = map (λ level. level.items) l.all.items ≡ take l.i (zip2 united (map (λ level. level.items) l.levels) (map (λ level. level.items) l.others))
+invariant-loop-i l =
+    map (λ level. level.items) l.all.items
+    ≡ take l.i (zip2 united (map (λ level. level.items) l.levels) (map (λ level. level.items) l.others))

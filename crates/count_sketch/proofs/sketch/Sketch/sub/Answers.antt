@@ -11,10 +11,17 @@ abbrev before : goal.After-self-1 → Grid
 before c = record { rows = c.self.inside.rows; width = c.self.inside.width; counters = c.self.inside.counters.items }
 
 abbrev other_before : goal.After-self-1 → Grid
-other_before c = record { rows = c.other.inside.rows; width = c.other.inside.width; counters = c.other.inside.counters.items }
+other_before c = record {
+  rows = c.other.inside.rows;
+  width = c.other.inside.width;
+  counters =
+      c.other.inside.counters.items;
+}
 
 -- the counters after the call
-after : (c : goal.After-self-1) → (with_items c.self.inside.counters c.sub_places.new.numbers).items ≡ minus c.self.inside.counters.items c.other.inside.counters.items
+after : (c : goal.After-self-1)
+    → (with_items c.self.inside.counters c.sub_places.new.numbers).items
+    ≡ minus c.self.inside.counters.items c.other.inside.counters.items
 after c =
     with_items_is c.self.inside.counters c.sub_places.new.numbers (omega arith)
     ∙ rw (c.deref_mut.ensures.value, c.deref.ensures.value) at c.sub_places.ensures
@@ -24,12 +31,16 @@ invariant_of-self c =
     let old = c.self.inside in
     let other = c.other.inside in
     let low = subst (λ (g : Grid). AllUpTo (2 ^ 62 - 1) g.counters) (sym c.self.view_is) c.requires.small in
-    let other_low = subst (λ (g : Grid). AllUpTo (2 ^ 62 - 1) g.counters) (sym c.other.view_is) c.requires.other_small in
-    let rows : old.rows ≡ other.rows = ap (λ (g : Grid). g.rows) c.self.view_is ∙ c.requires.rows ∙ sym (ap (λ (g : Grid). g.rows) c.other.view_is) in
-    let width : old.width ≡ other.width = ap (λ (g : Grid). g.width) c.self.view_is ∙ c.requires.width ∙ sym (ap (λ (g : Grid). g.width) c.other.view_is) in
+    let other_low = subst (λ (g : Grid). AllUpTo (2 ^ 62 - 1) g.counters)
+    (sym c.other.view_is) c.requires.other_small in
+    let rows : old.rows ≡ other.rows =
+    ap (λ (g : Grid). g.rows) c.self.view_is ∙ c.requires.rows ∙ sym (ap (λ (g : Grid). g.rows) c.other.view_is) in
+    let width : old.width ≡ other.width =
+    ap (λ (g : Grid). g.width) c.self.view_is ∙ c.requires.width ∙ sym (ap (λ (g : Grid). g.width) c.other.view_is) in
     let size : length other.counters.items ≡ old.rows * old.width = rw (rows, width) c.other.invariant.size in
     subst (λ (xs : List ℤ). IsShaped old.rows old.width xs) (sym (after c))
-    (IsShaped-minus old.rows old.width (2 ^ 62 - 1) (2 ^ 62 - 1) old.counters.items other.counters.items c.self.invariant size low other_low (omega arith))
+    (IsShaped-minus old.rows old.width (2 ^ 62 - 1)
+    (2 ^ 62 - 1) old.counters.items other.counters.items c.self.invariant size low other_low (omega arith))
 
 pub returns-clause-list : goal.returns-clause-list
 returns-clause-list c = λ seed level xs ys is other_is.

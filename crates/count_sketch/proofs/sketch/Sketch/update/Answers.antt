@@ -14,7 +14,9 @@ abbrev before : goal.After-self-1 → Grid
 before c = record { rows = c.self.inside.rows; width = c.self.inside.width; counters = c.self.inside.counters.items }
 
 -- the counters after the call
-after : (c : goal.After-self-1) → (with_items c.self.inside.counters c.update_in.new.counters).items ≡ plus c.self.inside.counters.items (item_counters c.args.family.now c.args.level (item c) (before c))
+after : (c : goal.After-self-1)
+    → (with_items c.self.inside.counters c.update_in.new.counters).items ≡ plus c.self.inside.counters.items
+    (item_counters c.args.family.now c.args.level (item c) (before c))
 after c =
     with_items_is c.self.inside.counters c.update_in.new.counters (omega arith)
     ∙ rw c.deref_mut.ensures.value at c.update_in.ensures

@@ -17,7 +17,9 @@ abbrev before : goal.After-self-1 → Grid
 before c = record { rows = c.self.inside.rows; width = c.self.inside.width; counters = c.self.inside.counters.items }
 
 -- the counters after the call
-after : (c : goal.After-self-1) → (with_items c.self.inside.counters c.update_and_estimate_in.new.counters).items ≡ plus c.self.inside.counters.items (item_counters c.args.family.now c.args.level (item c) (before c))
+after : (c : goal.After-self-1)
+    → (with_items c.self.inside.counters c.update_and_estimate_in.new.counters).items
+    ≡ plus c.self.inside.counters.items (item_counters c.args.family.now c.args.level (item c) (before c))
 after c =
     with_items_is c.self.inside.counters c.update_and_estimate_in.new.counters (omega arith)
     ∙ rw c.deref_mut.ensures.value at c.update_and_estimate_in.ensures.next
@@ -47,7 +49,8 @@ returns-clause-result_bound c = λ n all.
     let new = c.update_and_estimate_in.new.counters in
     let fits : FitsSigned w64 c.update_and_estimate_in.result = search rules in
     let low = subst (λ (xs : List ℤ). AllUpTo n xs) (with_items_is old.counters new (omega arith)) all in
-    rw (to_z-of_z w64 _ fits, c.update_and_estimate_in.ensures.value) (estimate-upto c.args.family.now c.args.level old.rows old.width new c.args.key.now n low)
+    rw (to_z-of_z w64 _ fits, c.update_and_estimate_in.ensures.value)
+    (estimate-upto c.args.family.now c.args.level old.rows old.width new c.args.key.now n low)
 
 pub returns-clause-middle : goal.returns-clause-middle
 returns-clause-middle c =
@@ -55,5 +58,6 @@ returns-clause-middle c =
     let new = c.update_and_estimate_in.new.counters in
     let fits : FitsSigned w64 c.update_and_estimate_in.result = search rules in
     let put = with_items_is old.counters new (omega arith) in
-    subst (λ (xs : List ℤ). IsMiddle (row_estimates c.args.family.now c.args.level old.rows old.width xs c.args.key.now) (to_z w64 (of_z w64 c.update_and_estimate_in.result))) (sym put)
+    subst (λ (xs : List ℤ). IsMiddle (row_estimates c.args.family.now c.args.level old.rows old.width xs c.args.key.now)
+    (to_z w64 (of_z w64 c.update_and_estimate_in.result))) (sym put)
     (rw (to_z-of_z w64 _ fits) c.update_and_estimate_in.ensures.middle)

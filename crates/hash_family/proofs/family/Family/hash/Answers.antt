@@ -14,4 +14,7 @@ returns c =
     let f = c.args.function in
     let words = c.args.words.now in
     let of = row_of _ f (12 * f + 12 - 12 * f) _ c.self.invariant c.requires (omega arith) in
-    record { value = c.hash_by.ensures ∙ rw c.deref.ensures.value (linear_form-hash words of ∙ ap (λ (seed : ℕ). hash seed f words) c.self.view_is) }
+    record {
+      value = c.hash_by.ensures
+          ∙ rw c.deref.ensures.value (linear_form-hash words of ∙ ap (λ (seed : ℕ). hash seed f words) c.self.view_is);
+    }

@@ -5,4 +5,5 @@ pub returns-clause-empty : goal.returns-clause-empty
 returns-clause-empty c = HoldsNotes-none c.args.levels c.new.result.entries c.new.ensures.empty
 
 pub returns-clause-items : goal.returns-clause-items
-returns-clause-items c = λ seed. rw (notes_of-none seed) (HoldsNotes-none c.args.levels c.new.result.entries c.new.ensures.empty)
+returns-clause-items c =
+    λ seed. rw (notes_of-none seed) (HoldsNotes-none c.args.levels c.new.result.entries c.new.ensures.empty)

@@ -16,7 +16,12 @@ abbrev before : goal.After-self-1 → Layer
 before c = record { sketch = c.self.inside.sketch; heap = c.self.inside.heap; dropped = c.self.inside.dropped }
 
 abbrev after : goal.After-self-1 → Layer
-after c = record { sketch = c.update_and_estimate-score.new.self; heap = c.offer-drops.new.heap; dropped = c.if-self.self }
+after c = record {
+  sketch = c.update_and_estimate-score.new.self;
+  heap = c.offer-drops.new.heap;
+  dropped =
+      c.if-self.self;
+}
 
 marked : (c : goal.After-self-1) → c.if-self.self ≡ (c.self.inside.dropped || c.offer-drops.result)
 marked c = elim c.if-self.branch [
@@ -25,7 +30,10 @@ marked c = elim c.if-self.branch [
 ]
 
 -- the score that is offered
-score_is : (c : goal.After-self-1) → to_z w64 (of_z w64 c.update_and_estimate-score.result) ≡ estimate c.args.family.now c.args.number c.update_and_estimate-score.new.self.rows c.update_and_estimate-score.new.self.width c.update_and_estimate-score.new.self.counters c.args.key.now
+score_is : (c : goal.After-self-1)
+    → to_z w64 (of_z w64 c.update_and_estimate-score.result)
+    ≡ estimate c.args.family.now c.args.number c.update_and_estimate-score.new.self.rows
+    c.update_and_estimate-score.new.self.width c.update_and_estimate-score.new.self.counters c.args.key.now
 score_is c =
     let fits : FitsSigned w64 c.update_and_estimate-score.result = search rules in
     to_z-of_z w64 _ fits ∙ c.update_and_estimate-score.ensures.value

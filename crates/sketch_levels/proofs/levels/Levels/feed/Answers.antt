@@ -12,12 +12,23 @@ abbrev item : goal.After-self-2-1 → Item
 item c = record { key = c.args.key.now; weight = c.args.weight }
 
 abbrev before : goal.After-self-2-1 → View
-before c = record { setting = setting_of c.self.inside.params; weight = c.self.inside.weight; levels = c.self.inside.levels.items }
+before c = record {
+  setting = setting_of c.self.inside.params;
+  weight = c.self.inside.weight;
+  levels =
+      c.self.inside.levels.items;
+}
 
 abbrev after : goal.After-self-2-1 → View
-after c = record { setting = setting_of c.self.inside.params; weight = c.self.inside.weight + c.from.result; levels = (with_items c.self.inside.levels c.feed_levels.new.levels).items }
+after c = record {
+  setting = setting_of c.self.inside.params;
+  weight = c.self.inside.weight + c.from.result;
+  levels =
+      (with_items c.self.inside.levels c.feed_levels.new.levels).items;
+}
 
-levels_are : (c : goal.After-self-2-1) → (with_items c.self.inside.levels c.feed_levels.new.levels).items ≡ c.feed_levels.new.levels
+levels_are : (c : goal.After-self-2-1)
+    → (with_items c.self.inside.levels c.feed_levels.new.levels).items ≡ c.feed_levels.new.levels
 levels_are c = with_items_is c.self.inside.levels c.feed_levels.new.levels (search rules)
 
 fed : (c : goal.After-self-2-1) → IsFed (item c) (before c) (after c)
@@ -25,13 +36,17 @@ fed c = record {
   setting = refl;
   weight = ap (λ n. c.self.inside.weight + n) c.from.ensures;
   number = ap length (levels_are c) ∙ omega (arith, ap length c.deref_mut.ensures.value);
-  each = λ level d within. rw (levels_are c, ← c.self.invariant.0) ((rw c.deref_mut.ensures.value at c.feed_levels.ensures).each level d within);
+  each = λ level d within. rw (levels_are c, ← c.self.invariant.0)
+      ((rw c.deref_mut.ensures.value at c.feed_levels.ensures).each level d within);
 }
 
 pub invariant_of-self : goal.invariant_of-self
 invariant_of-self c =
-    let weight : c.self.inside.weight ≡ c.args.self.now.weight = ap (λ (view : View). view.weight) c.self.view_is in
-    (c.self.invariant.0, IsView-fed (item c) (before c) (after c) (fed c) (omega (arith, c.requires.light)) c.self.invariant.1)
+    let weight : c.self.inside.weight ≡ c.args.self.now.weight = ap (λ (view : View). view.weight) c.self.view_is in (
+      c.self.invariant.0,
+      IsView-fed (item c) (before c) (after c) (fed c)
+          (omega (arith, c.requires.light)) c.self.invariant.1,
+    )
 
 pub returns-clause-list : goal.returns-clause-list
 returns-clause-list c = λ items holds.

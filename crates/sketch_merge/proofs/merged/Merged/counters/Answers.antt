@@ -1,4 +1,5 @@
-use Rattle.std.proofs.Common.{◌≡◌, ◌^◌, ℕ, ℤ, ◌+◌, ◌*◌, ◌<◌, ◌≤◌, [], List, Vec, Global, length, map, get_or, sym, ◌∙◌, ap, subst, arith}
+use Rattle.std.proofs.Common.{◌≡◌, ◌^◌, ℕ, ℤ, ◌+◌, ◌*◌, ◌<◌, ◌≤◌, [], List, Vec, Global, length, map, get_or, sym, ◌∙◌}
+use Rattle.std.proofs.Common.{ap, subst, arith}
 use Rattle.std.proofs.lemmas.List.{length-map}
 use Rattle.count_sketch.specs.Counters.{AllUpTo}
 use Rattle.sketch_merge.specs.Merged.{View, counters_at}
@@ -28,7 +29,9 @@ pub returns-clause-shape : goal.returns-clause-shape
 returns-clause-shape c =
     let size = c.self.inside.params.rows * c.self.inside.params.width in
     ap length c.deref.ensures.value
-    ∙ seen_all (λ (level : List ℤ). length level ≡ size) view c.self.inside.counters.items c.from.result c.index.result.now (within c) c.index.ensures c.self.invariant.shape
+    ∙ seen_all (λ (level : List ℤ). length level
+    ≡ size) view c.self.inside.counters.items c.from.result c.index.result.now
+    (within c) c.index.ensures c.self.invariant.shape
     ∙ ap (λ (v : View). v.setting.rows * v.setting.width) c.self.view_is
 
 pub returns-clause-few : goal.returns-clause-few
@@ -38,10 +41,13 @@ returns-clause-few c =
     let few : size ≤ 14336 = few_counters params.levels params.rows params.width params.heap c.self.invariant.within in
     let shape : length c.deref.result.now ≡ size =
     ap length c.deref.ensures.value
-    ∙ seen_all (λ (level : List ℤ). length level ≡ size) view c.self.inside.counters.items c.from.result c.index.result.now (within c) c.index.ensures c.self.invariant.shape in
+    ∙ seen_all (λ (level : List ℤ). length level
+    ≡ size) view c.self.inside.counters.items c.from.result c.index.result.now
+    (within c) c.index.ensures c.self.invariant.shape in
     omega (arith, few, shape)
 
 pub returns-clause-bound : goal.returns-clause-bound
 returns-clause-bound c =
     subst (AllUpTo (2 ^ 45)) (sym c.deref.ensures.value)
-    (seen_all (AllUpTo (2 ^ 45)) view c.self.inside.counters.items c.from.result c.index.result.now (within c) c.index.ensures c.self.invariant.small)
+    (seen_all (AllUpTo (2 ^ 45)) view c.self.inside.counters.items c.from.result c.index.result.now
+    (within c) c.index.ensures c.self.invariant.small)

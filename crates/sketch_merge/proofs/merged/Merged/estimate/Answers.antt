@@ -11,4 +11,5 @@ returns-clause-bound c =
 pub returns-clause-within : goal.returns-clause-within
 returns-clause-within c = λ n small.
     let fits : FitsSigned w64 c.estimate_in.result = search rules in
-    rw (to_z-of_z w64 _ fits) (c.estimate_in.ensures.bound n (subst (AllUpTo n) (sym c.counters-counters.ensures.value) small))
+    rw (to_z-of_z w64 _ fits)
+    (c.estimate_in.ensures.bound n (subst (AllUpTo n) (sym c.counters-counters.ensures.value) small))

@@ -28,4 +28,5 @@ returns-clause-value c =
 pub returns-clause-ascending : goal.returns-clause-ascending
 returns-clause-ascending c =
     subst (IsStrictlySortedBy (slice_cmp nat_cmp)) (sym c.deref.ensures.value)
-    (seen_all (IsStrictlySortedBy (slice_cmp nat_cmp)) view c.self.inside.keys.items c.from.result c.index.result.now (within c) c.index.ensures c.self.invariant.ascending)
+    (seen_all (IsStrictlySortedBy (slice_cmp nat_cmp)) view c.self.inside.keys.items c.from.result c.index.result.now
+    (within c) c.index.ensures c.self.invariant.ascending)

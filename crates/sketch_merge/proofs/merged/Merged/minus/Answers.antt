@@ -22,13 +22,15 @@ subtracted_levels-requires-clause-other_small c =
     subst (λ (levels : List (Vec ℤ Global)). All (AllUpTo (2 ^ 44)) (map view levels)) (sym c.deref-2.ensures.value)
     (subst (λ (v : View). All (AllUpTo (2 ^ 44)) v.counters) (sym c.other.view_is) c.requires.other_small)
 
-counters_are : (c : goal.Joined-self) → map view c.in_ok-counters.counters.items ≡ zip2 minus c.args.self.now.counters c.args.other.now.counters
+counters_are : (c : goal.Joined-self)
+    → map view c.in_ok-counters.counters.items ≡ zip2 minus c.args.self.now.counters c.args.other.now.counters
 counters_are c =
     (rw (c.deref.ensures.value, c.deref-2.ensures.value) at c.in_ok-counters.ensures.value)
     ∙ ap (λ (v : View). zip2 minus v.counters (map view c.other.inside.counters.items)) c.self.view_is
     ∙ ap (λ (v : View). zip2 minus c.args.self.now.counters v.counters) c.other.view_is
 
-keys_are : (c : goal.Joined-self) → map keys_view c.in_ok-keys.keys.items ≡ zip2 united c.args.self.now.keys c.args.other.now.keys
+keys_are : (c : goal.Joined-self)
+    → map keys_view c.in_ok-keys.keys.items ≡ zip2 united c.args.self.now.keys c.args.other.now.keys
 keys_are c =
     (rw (c.deref-3.ensures.value, c.deref-4.ensures.value) at c.in_ok-keys.ensures.value)
     ∙ ap (λ (v : View). zip2 united v.keys (map keys_view c.other.inside.keys.items)) c.self.view_is
@@ -43,4 +45,5 @@ invariant_of-result c =
 
 pub returns-clause-few : goal.returns-clause-few
 returns-clause-few c = λ n m first second.
-    subst (HaveUpTo (n + m)) (sym (keys_are c)) (HaveUpTo-united n m c.args.self.now.keys c.args.other.now.keys first second)
+    subst (HaveUpTo (n + m)) (sym (keys_are c))
+    (HaveUpTo-united n m c.args.self.now.keys c.args.other.now.keys first second)

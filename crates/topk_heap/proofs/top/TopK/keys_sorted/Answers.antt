@@ -8,10 +8,13 @@ use Rattle.topk_heap.specs.declared.entry.Entry.{Entry}
 use Rattle.topk_heap.proofs.Scores.{IsStrictlySortedBy-keys}
 use Rattle.topk_heap.proofs.top.TopK.keys_sorted.Goals as goal
 
-sorted_if_ok : {E : Type 0} (entries : List Entry) (result : Result (Vec (List ℕ) Global) E) → IsAscending entries → IfOk result (λ keys. keys.items ≡ map (λ (e : Entry). e.key) entries) → IfOk result (λ keys. IsStrictlySortedBy (slice_cmp nat_cmp) keys.items)
+sorted_if_ok : {E : Type 0} (entries : List Entry) (result : Result (Vec (List ℕ) Global) E) → IsAscending entries
+    → IfOk result (λ keys. keys.items ≡ map (λ (e : Entry). e.key) entries)
+    → IfOk result (λ keys. IsStrictlySortedBy (slice_cmp nat_cmp) keys.items)
 sorted_if_ok entries (Ok keys) ascending same = rw same (IsStrictlySortedBy-keys entries ascending)
 sorted_if_ok entries (Err error) ascending same = tt
 
 pub returns-clause-ascending : goal.returns-clause-ascending
 returns-clause-ascending c =
-    sorted_if_ok c.self.inside.entries.items c.keys_of.result c.self.invariant.whole.ascending (rw c.deref.ensures.value at c.keys_of.ensures.keys)
+    sorted_if_ok c.self.inside.entries.items c.keys_of.result c.self.invariant.whole.ascending
+    (rw c.deref.ensures.value at c.keys_of.ensures.keys)
