@@ -1,5 +1,5 @@
 -- The text that is due, and the answers behind a topology.
-use Rattle.std.proofs.Common.{◌≡◌, ◌≤◌, ℕ, List, Option, Some, None, Ok, Err, refl, subst}
+use Rattle.std.proofs.Common.{◌≡◌, ℕ, List, Option, Some, None, refl, subst}
 use Rattle.mon_io.specs.Inputs.{InputState, IsOver}
 use Rattle.pcap_reader.specs.Trace.{Record}
 use Rattle.pcap_reader.specs.declared.header.Header.{Header}

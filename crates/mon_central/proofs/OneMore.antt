@@ -1,5 +1,5 @@
 -- What was sketched, one record on.
-use Rattle.std.proofs.Common.{◌≡◌, ℕ, ◌+◌, ◌≤◌, max, List, [], ◌∷◌, ◌++◌, length, Option, Some, None, Ok, refl, sym, ◌∙◌, ap, subst, arith, append-nil, Vec, Global}
+use Rattle.std.proofs.Common.{◌≡◌, ℕ, max, List, [], ◌∷◌, ◌++◌, length, Option, Some, None, Ok, refl, sym, ◌∙◌, ap, subst, arith, append-nil, Vec, Global}
 use Rattle.std.specs.Option.{option_to_list}
 use Rattle.flow_keys.specs.declared.routed.Routed.{Routed}
 use Rattle.pcap_reader.specs.declared.header.Header.{Header}

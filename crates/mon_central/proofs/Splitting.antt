@@ -1,19 +1,14 @@
 -- How records are divided into epochs, one record on.
-use Rattle.std.proofs.Common.{◌≡◌, ◌≢◌, ℕ, ◌+◌, ◌<◌, ◌≤◌, ◌==◌, ◌-◌, max, List, [], ◌∷◌, ◌++◌, length, map, fold, filter, filter_map, set, true, false, Option, Some, None, unwrap_or, refl, sym, ◌∙◌, ap, subst, arith, inl, inr, append-nil, length-append, length-set, get_or-set_other, get_or-set_same}
-use Rattle.std.specs.List.{cons_option, slice_index_or}
+use Rattle.std.proofs.Common.{◌≡◌, ◌≢◌, ℕ, ◌+◌, ◌<◌, ◌≤◌, ◌==◌, ◌-◌, List, [], ◌∷◌, ◌++◌, length, map, filter, set, true, false, refl, sym, ◌∙◌, ap, subst, arith, inl, inr, append-nil, length-append, length-set, get_or-set_other, get_or-set_same}
+use Rattle.std.specs.List.{slice_index_or}
 use Rattle.std.specs.Prelude.{if◌then◌else◌}
-use Rattle.std.specs.Option.{option_to_list}
 use Rattle.std.proofs.Math.ListN.{get_or-append}
 use Rattle.std.proofs.lemmas.Bool.{cases_eq, cases_lt}
 use Rattle.std.proofs.lemmas.Bool.Decides.{nat_tests}
 use Rattle.std.proofs.lemmas.List.{get_or_push, map-append, length-map}
-use Rattle.std.proofs.lemmas.List.Elements.{filter-append, filter_map-append}
-use Rattle.std.proofs.lemmas.List.Sums.{fold-append, length-filter, count_by-le-length}
-use Rattle.flow_keys.specs.Frame.{frame_key}
+use Rattle.std.proofs.lemmas.List.Elements.{filter-append}
+use Rattle.std.proofs.lemmas.List.Sums.{length-filter, count_by-le-length}
 use Rattle.count_sketch.specs.Counters.{Item}
-use Rattle.pcap_reader.specs.declared.header.Header.{Header}
-use Rattle.pcap_reader.specs.Trace.{Record}
-use Rattle.topology.specs.Topology.{Topo}
 use Rattle.mon_central.specs.Central.{block_of, change_of, epoch_lines, epochs_lines}
 use Rattle.flow_keys.specs.declared.routed.Routed.{Routed}
 use Rattle.routed_trace.specs.Routed.{item_of, items_in}

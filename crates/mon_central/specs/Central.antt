@@ -1,5 +1,5 @@
 -- The text of `central`.
-use Rattle.std.specs.Prelude.{◌≡◌, ◌≤◌, ℤ, pos, ℕ, ◌+◌, ◌-◌, ◌==◌, ◌&&◌, not, max, Bool, List, [], ◌++◌, length, map, count_by, Option, Some, None, IfSome, Ok, codes, decimal, if◌then◌else◌}
+use Rattle.std.specs.Prelude.{ℤ, pos, ℕ, ◌+◌, ◌-◌, ◌==◌, ◌&&◌, not, max, Bool, List, [], ◌++◌, length, map, count_by, Option, codes, decimal, if◌then◌else◌}
 use Rattle.std.specs.List.{flat_map, list_any, range_with_len}
 use Rattle.std.specs.Ordering.{int_eq}
 use Rattle.hash_family.specs.Setting as sketch

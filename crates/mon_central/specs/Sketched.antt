@@ -4,7 +4,7 @@ use Rattle.std.specs.List.{flat_map, list_any, range_with_len}
 use Rattle.flow_keys.specs.Frame.{frame_key}
 use Rattle.hash_family.specs.Setting as sketch
 use Rattle.count_sketch.specs.Counters.{Item, AllUpTo}
-use Rattle.sketch_levels.specs.Items.{live_items, weight_of}
+use Rattle.sketch_levels.specs.Items.{live_items}
 use Rattle.sketch_levels.specs.Kept as levels
 use Rattle.sketch_levels.specs.Levels.{View, Holds, level_at}
 use Rattle.sketch_levels.specs.Noted.{Noted, HoldsNotes, notes_of}

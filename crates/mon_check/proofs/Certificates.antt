@@ -1,5 +1,5 @@
 -- Of told contents only one thing is said: what a certificate proves, or its first fault.
-use Rattle.std.proofs.Common.{◌≡◌, ℕ, List, [], Option, Some, None, Ok, Err, IfSome, sym, ◌∙◌, ap, subst}
+use Rattle.std.proofs.Common.{◌≡◌, ℕ, List, [], Option, Some, None, Ok, Err, sym, ◌∙◌, ap, subst}
 use Rattle.bound_certificate.specs.Problem.{Problem}
 use Rattle.bound_certificate.specs.Tree.{first_fault, visits}
 use Rattle.certificate_text.specs.declared.fault.CertFault.{CertFault}

@@ -1,5 +1,5 @@
 -- How a certificate is read, and the answers behind a topology.
-use Rattle.std.proofs.Common.{◌≡◌, ◌≤◌, ◌<◌, ◌+◌, ◌⊎◌, ℕ, List, [], ◌∷◌, ◌++◌, length, Option, Some, None, Result, Ok, Err, IfSome, refl, sym, subst, arith, inl, inr, length-append}
+use Rattle.std.proofs.Common.{◌≡◌, ◌<◌, ◌+◌, ◌⊎◌, ℕ, List, [], ◌∷◌, ◌++◌, length, Option, Some, None, Result, Ok, Err, IfSome, refl, sym, subst, arith, inl, inr, length-append}
 use Rattle.mon_io.specs.Inputs.{InputState, IsOver, Picked, Took}
 use Rattle.bound_certificate.specs.Problem.{Problem}
 use Rattle.bound_certificate.specs.declared.tree.Tree.{Tree}

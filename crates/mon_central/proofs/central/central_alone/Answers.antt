@@ -1,4 +1,4 @@
-use Rattle.std.proofs.Common.{None, arith}
+use Rattle.std.proofs.Common.{arith}
 use Rattle.mon_call.proofs.Behind.{answers_behind}
 use Rattle.mon_central.proofs.Answered.{alone}
 use Rattle.mon_central.proofs.central.central_alone.Goals as goal

@@ -1,4 +1,4 @@
-use Rattle.std.proofs.Common.{[], ◌∷◌, None}
+use Rattle.std.proofs.Common.{None}
 use Rattle.mon_call.specs.Call.{call_of}
 use Rattle.mon_call.proofs.Behind.{answers_behind, picks_behind}
 use Rattle.mon_call.proofs.Endings.{picks_unread}

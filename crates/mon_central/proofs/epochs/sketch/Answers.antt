@@ -30,7 +30,7 @@ add-requires-clause-next g c =
       few = few_before dividing.members advanced;
       divides = dividing.divides;
       packet_is = packet_read header dividing.members c.next.ensures.header advanced;
-      key_is = key_read header dividing.members c.next.ensures.header advanced (c.key_of-key.ensures.key ∙ ap (λ (bytes : List ℕ). frame_key c.in-Ok-Some.packet.link bytes) c.captured.ensures);
+      key_is = key_read header dividing.members c.next.ensures.header advanced (c.key_of-key.ensures.key ∙ ap (λ (bytes : List ℕ). frame_key c.in-Ok-Some.packet.link bytes) c.captured.ensures.bytes);
     }
 
 pub loop-packet-smaller : goal.loop-packet-smaller
@@ -39,7 +39,7 @@ loop-packet-smaller g c =
     let header = c.loop-packet.reader.header in
     let advanced = rw c.in-Ok-Some.field-0-is at (c.in-Ok-Some.ensures.advances _ dividing.members dividing.so_far) in
     let at = packet_read header dividing.members c.next.ensures.header advanced in
-    let is = key_read header dividing.members c.next.ensures.header advanced (c.key_of-key.ensures.key ∙ ap (λ (bytes : List ℕ). frame_key c.in-Ok-Some.packet.link bytes) c.captured.ensures) in
+    let is = key_read header dividing.members c.next.ensures.header advanced (c.key_of-key.ensures.key ∙ ap (λ (bytes : List ℕ). frame_key c.in-Ok-Some.packet.link bytes) c.captured.ensures.bytes) in
     let counted = c.in-Ok-add.ensures header dividing.members advanced.0 dividing.divides at is in
     omega (arith, counted.counts_are.packets, dividing.divides.counts_are.packets, length-append dividing.members (advanced.0 ∷ []), few_before dividing.members advanced)
 
@@ -49,7 +49,7 @@ loop-packet-preserved g c =
     let header = c.loop-packet.reader.header in
     let advanced = rw c.in-Ok-Some.field-0-is at (c.in-Ok-Some.ensures.advances _ dividing.members dividing.so_far) in
     let at = packet_read header dividing.members c.next.ensures.header advanced in
-    let is = key_read header dividing.members c.next.ensures.header advanced (c.key_of-key.ensures.key ∙ ap (λ (bytes : List ℕ). frame_key c.in-Ok-Some.packet.link bytes) c.captured.ensures) in
+    let is = key_read header dividing.members c.next.ensures.header advanced (c.key_of-key.ensures.key ∙ ap (λ (bytes : List ℕ). frame_key c.in-Ok-Some.packet.link bytes) c.captured.ensures.bytes) in
     let members = dividing.members ++ advanced.0 ∷ [] in
     let counted = c.in-Ok-add.ensures header dividing.members advanced.0 dividing.divides at is in (
       record {
@@ -92,7 +92,7 @@ returns-in-Err-add-clause-sketched g c =
     let header = c.loop-packet.reader.header in
     let advanced = rw c.in-Ok-Some.field-0-is at (c.in-Ok-Some.ensures.advances _ dividing.members dividing.so_far) in
     let at = packet_read header dividing.members c.next.ensures.header advanced in
-    let is = key_read header dividing.members c.next.ensures.header advanced (c.key_of-key.ensures.key ∙ ap (λ (bytes : List ℕ). frame_key c.in-Ok-Some.packet.link bytes) c.captured.ensures) in
+    let is = key_read header dividing.members c.next.ensures.header advanced (c.key_of-key.ensures.key ∙ ap (λ (bytes : List ℕ). frame_key c.in-Ok-Some.packet.link bytes) c.captured.ensures.bytes) in
     let counted = c.in-Err-add.ensures header dividing.members advanced.0 dividing.divides at is in
     counted_stop contents c.args.trace.now c.args.topology.now c.args.setting.now c.add.new.self before now c.next.new.self header dividing.members advanced.0 c.in-Err-add.status
     c.next.ensures.header advanced.1 dividing.divides.counts_are.divided counted

@@ -1,4 +1,3 @@
-use Rattle.std.proofs.Common.{◌≡◌, length}
 use Rattle.mon_central.proofs.LiveCounts.{HasCounted}
 use Rattle.mon_central.proofs.live.count_live.Given as goal
 

@@ -46,7 +46,7 @@ loop-packet-preserved-then-is_some g c =
     let counting = c.loop-packet.invariant.0 in
     let advanced = rw c.in-Ok-Some.field-0-is at (c.in-Ok-Some.ensures.advances _ counting.members counting.so_far) in
     let keyed : is_some (frame_key c.in-Ok-Some.packet.link (captured_of c.next.new.self)) ≡ true =
-    ap (λ (bytes : List ℕ). is_some (frame_key c.in-Ok-Some.packet.link bytes)) (sym c.captured.ensures) ∙ ap (λ (k : Option (List ℕ)). is_some k) (sym c.key_of.ensures.key) ∙ sym c.if-is_some.ensures in
+    ap (λ (bytes : List ℕ). is_some (frame_key c.in-Ok-Some.packet.link bytes)) (sym c.captured.ensures.bytes) ∙ ap (λ (k : Option (List ℕ)). is_some k) (sym c.key_of.ensures.key) ∙ sym c.if-is_some.ensures in
     let more = counted_more c.in-Ok-Some.packet true (c.loop-packet.keyed + 1) counting advanced c.next.ensures.header keyed refl in
     (more.0, omega (arith, c.loop-packet.invariant.1, c.next.ensures.later), c.next.ensures.stays ∙ c.loop-packet.invariant.2, λ names stood. c.next.ensures.picks (names ++ c.args.trace.now ∷ []) (c.loop-packet.invariant.3 names stood))
 
@@ -55,7 +55,7 @@ loop-packet-smaller-then-is_some g c =
     let counting = c.loop-packet.invariant.0 in
     let advanced = rw c.in-Ok-Some.field-0-is at (c.in-Ok-Some.ensures.advances _ counting.members counting.so_far) in
     let keyed : is_some (frame_key c.in-Ok-Some.packet.link (captured_of c.next.new.self)) ≡ true =
-    ap (λ (bytes : List ℕ). is_some (frame_key c.in-Ok-Some.packet.link bytes)) (sym c.captured.ensures) ∙ ap (λ (k : Option (List ℕ)). is_some k) (sym c.key_of.ensures.key) ∙ sym c.if-is_some.ensures in
+    ap (λ (bytes : List ℕ). is_some (frame_key c.in-Ok-Some.packet.link bytes)) (sym c.captured.ensures.bytes) ∙ ap (λ (k : Option (List ℕ)). is_some k) (sym c.key_of.ensures.key) ∙ sym c.if-is_some.ensures in
     let more = counted_more c.in-Ok-Some.packet true (c.loop-packet.keyed + 1) counting advanced c.next.ensures.header keyed refl in
     omega (arith, more.1)
 
@@ -64,7 +64,7 @@ loop-packet-preserved g c =
     let counting = c.loop-packet.invariant.0 in
     let advanced = rw c.in-Ok-Some.field-0-is at (c.in-Ok-Some.ensures.advances _ counting.members counting.so_far) in
     let keyed : is_some (frame_key c.in-Ok-Some.packet.link (captured_of c.next.new.self)) ≡ false =
-    ap (λ (bytes : List ℕ). is_some (frame_key c.in-Ok-Some.packet.link bytes)) (sym c.captured.ensures) ∙ ap (λ (k : Option (List ℕ)). is_some k) (sym c.key_of.ensures.key) ∙ sym c.if-is_some.ensures in
+    ap (λ (bytes : List ℕ). is_some (frame_key c.in-Ok-Some.packet.link bytes)) (sym c.captured.ensures.bytes) ∙ ap (λ (k : Option (List ℕ)). is_some k) (sym c.key_of.ensures.key) ∙ sym c.if-is_some.ensures in
     let more = counted_more c.in-Ok-Some.packet false (c.loop-packet.keyed) counting advanced c.next.ensures.header keyed (omega arith) in
     (more.0, omega (arith, c.loop-packet.invariant.1, c.next.ensures.later), c.next.ensures.stays ∙ c.loop-packet.invariant.2, λ names stood. c.next.ensures.picks (names ++ c.args.trace.now ∷ []) (c.loop-packet.invariant.3 names stood))
 
@@ -73,6 +73,6 @@ loop-packet-smaller g c =
     let counting = c.loop-packet.invariant.0 in
     let advanced = rw c.in-Ok-Some.field-0-is at (c.in-Ok-Some.ensures.advances _ counting.members counting.so_far) in
     let keyed : is_some (frame_key c.in-Ok-Some.packet.link (captured_of c.next.new.self)) ≡ false =
-    ap (λ (bytes : List ℕ). is_some (frame_key c.in-Ok-Some.packet.link bytes)) (sym c.captured.ensures) ∙ ap (λ (k : Option (List ℕ)). is_some k) (sym c.key_of.ensures.key) ∙ sym c.if-is_some.ensures in
+    ap (λ (bytes : List ℕ). is_some (frame_key c.in-Ok-Some.packet.link bytes)) (sym c.captured.ensures.bytes) ∙ ap (λ (k : Option (List ℕ)). is_some k) (sym c.key_of.ensures.key) ∙ sym c.if-is_some.ensures in
     let more = counted_more c.in-Ok-Some.packet false (c.loop-packet.keyed) counting advanced c.next.ensures.header keyed (omega arith) in
     omega (arith, more.1)

@@ -2,7 +2,6 @@ use Rattle.std.proofs.Common.{ℕ, ◌≤◌, List, length, ◌∙◌, ap, subst
 use Rattle.hash_family.specs.Setting as sketch
 use Rattle.sketch_levels.specs.Kept as levels
 use Rattle.sketch_levels.specs.Items.{live_items}
-use Rattle.std.specs.Prelude.{map}
 use Rattle.mon_central.proofs.Kept.{few_live}
 use Rattle.mon_central.proofs.Packets.{kept_all, kept_heap, noted_some, noted_nothing}
 use Rattle.mon_central.proofs.Ranges.{if_ok_weaker}

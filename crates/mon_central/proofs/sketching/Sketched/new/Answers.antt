@@ -6,7 +6,7 @@ use Rattle.mon_central.proofs.sketching.Sketched.new.Goals.{then-setting-eq0+in_
 
 pub returns : goal.returns
 returns c = record {
-  family = c.in_ok-family.ensures;
+  family = c.in_ok-family.ensures.value;
   shape = c.in_ok-levels.ensures.setting ∙ c.params_of.ensures;
   holds = c.in_ok-levels.ensures.empty;
   noted = elim c.if-setting-eq0.branch [
