@@ -2,7 +2,8 @@
 ghost use Rattle.std.specs.Prelude.{◌≡◌, IfOk, string_bytes};
 ghost use Rattle.mon_command.specs.Status.{certificate_line, node_line, why_words};
 
-use bound_certificate::{CertFault, TreeWhy};
+use bound_certificate::TreeWhy;
+use certificate_text::CertFault;
 use std::alloc::{AllocError, Global};
 
 /// The line for standard error, without a line feed.

@@ -2,7 +2,7 @@
 //!
 //! - `alone`: `run_alone`, the commands that start nobody
 //! - `total`: the command `total`; `central` and `check` stand in crates of their own
-//! - `status_line`: the number and the line of a status; `topology_line`, `certificate_line`: the lines of the faults of
+//! - `statuses`: the number and the line of a status; `topology_line`, `certificate_line`: the lines of the faults of
 //!   a topology and of a certificate
 //!
 //! `specs/Outcome.antt` says how a call is answered: by what its words ask for, each status with its cause, and which
@@ -11,7 +11,7 @@
 
 mod alone;
 mod certificate_line;
-mod status_line;
+mod statuses;
 mod topology_line;
 mod total;
 
@@ -19,4 +19,4 @@ pub use alone::run_alone;
 pub use mon_call::{Input, Status};
 pub use mon_words::{Opt, UsageFault};
 pub use routed_trace::TraceFault;
-pub use status_line::{status_line, status_number};
+pub use statuses::{status_line, status_number};

@@ -1,4 +1,4 @@
-use Rattle.std.proofs.Common.{◌≡◌, ◌≤◌, ◌-◌}
+use Rattle.std.proofs.Common.{◌≡◌, ◌≤◌, ◌-◌, [], ◌∷◌}
 use Rattle.mon_io.specs.Inputs.{Picked}
 use Rattle.mon_command.proofs.Counting.{Counting}
 use Rattle.mon_command.proofs.total.count.Given as goal
