@@ -24,7 +24,13 @@ pub record Topo : Type 0 where
 -- the topology of these parts
 abbrev pub seen : List (String Global) → List (String Global) → List Ends → Problem → Topo
 seen switches paths between placed =
-    record { switch_names = map string_bytes switches; path_names = map string_bytes paths; ends = between; problem = placed }
+    record {
+      switch_names =
+          map string_bytes switches;
+      path_names = map string_bytes paths;
+      ends = between;
+      problem = placed;
+    }
 
 -- the most bytes that a file can have
 abbrev pub most_bytes : ℕ
@@ -48,7 +54,8 @@ topo_of root = record {
   switch_names = switch_names_of root;
   path_names = map name_of (paths_of root);
   ends = map ends_of (paths_of root);
-  problem = record { sites = map site_of (switches_of root); needs = map (need_of (switch_names_of root)) (paths_of root) };
+  problem =
+      record { sites = map site_of (switches_of root); needs = map (need_of (switch_names_of root)) (paths_of root) };
 }
 
 -- what is wrong with a document: with its switches, else with its paths

@@ -6,6 +6,7 @@
 //! - `fields`, `lists`, `names`: texts and numbers by their keys, the lists of entries, the names of entries
 //! - `switches`, `paths`: the two lists
 //! - `ends`, `via`: the two prefixes of a path, and the switches that it crosses
+//! - `laws`: what holds of every file
 //!
 //! `specs/Topology.antt` says what a file spells, by its TOML document: each test gives a fault or none, the first
 //! fault in the order of the tests is the answer, and where no test gives one, each value is read by its key. The
@@ -16,6 +17,7 @@
 mod ends;
 mod fault;
 mod fields;
+mod laws;
 mod lists;
 mod names;
 mod paths;
@@ -25,7 +27,5 @@ mod topology;
 mod via;
 
 pub use fault::{Entry, TopologyFault, What};
+pub use laws::accepted_files;
 pub use topology::Topology;
-
-#[cfg(test)]
-mod tests;

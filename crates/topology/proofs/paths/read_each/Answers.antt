@@ -13,7 +13,8 @@ pub returns-in_err-end-clause-fault : goal.returns-in_err-end-clause-fault
 returns-in_err-end-clause-fault c =
     let here = path_fault_here (map string_bytes c.args.switches.now.keys) c.args.entries.now c.loop-index.index c.index-entries-index.result _ c.loop-index-test.true c.index-entries-index.is c.loop-index.invariant.0 in
     let told = err_from_is_err_and c.from_residual.result c.from_residual.ensures.1 in
-    rw (told.1, told.2) (λ other. first_from_found _ _ _ _ _ c.loop-index-test.true (here ∙ c.in_err-end.ensures.fault other) c.loop-index.invariant.4)
+    rw (told.1, told.2) (λ other. first_from_found _ _ _ _ _ c.loop-index-test.true (here
+    ∙ c.in_err-end.ensures.fault other) c.loop-index.invariant.4)
 
 pub loop-index-preserved : goal.loop-index-preserved
 loop-index-preserved c =

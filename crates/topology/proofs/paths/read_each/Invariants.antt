@@ -13,6 +13,7 @@ invariant-loop-index l =
     × (l.ends.items ≡ map ends_of (take l.index (map view l.entries)))
     × (l.needs.items ≡ map (need_of (map string_bytes l.switches.keys)) (take l.index (map view l.entries)))
     × All (IsNeed (length l.switches.keys)) l.needs.items
-    × (first_from (path_fault_in (map string_bytes l.switches.keys) (map view l.entries)) l.index (length l.entries - l.index)
+    × (first_from (path_fault_in (map string_bytes l.switches.keys) (map view l.entries)) l.index
+    (length l.entries - l.index)
     ≡ first_from (path_fault_in (map string_bytes l.switches.keys) (map view l.entries)) 0 (length l.entries))
     × (length l.switches.keys ≤ 32)

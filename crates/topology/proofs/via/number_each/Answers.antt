@@ -12,13 +12,16 @@ pub returns-in_err-number-clause-fault : goal.returns-in_err-number-clause-fault
 returns-in_err-number-clause-fault c =
     let here = hop_fault_here (map string_bytes c.args.switches.now.keys) c.args.path c.args.elements.now c.loop-element.element-index c.element-item.result _ c.loop-element-test.true c.element-item.is (c.deref.ensures.value ∙ c.loop-element.invariant.0) in
     let told = err_from_is_err_and c.from_residual.result c.from_residual.ensures.1 in
-    rw (told.1, told.2) (λ other. first_from_found _ _ _ _ _ c.loop-element-test.true (here ∙ c.in_err-number.ensures.fault) c.loop-element.invariant.3)
+    rw (told.1, told.2) (λ other. first_from_found _ _ _ _ _ c.loop-element-test.true (here
+    ∙ c.in_err-number.ensures.fault) c.loop-element.invariant.3)
 
 pub loop-element-preserved : goal.loop-element-preserved
 loop-element-preserved c =
     let here = hop_fault_here (map string_bytes c.args.switches.now.keys) c.args.path c.args.elements.now c.loop-element.element-index c.element-item.result _ c.loop-element-test.true c.element-item.is (c.deref.ensures.value ∙ c.loop-element.invariant.0) in
     let more = mapped_more (number_of (map string_bytes c.args.switches.now.keys)) c.args.elements.now c.loop-element.element-index c.element-item.result c.loop-element-test.true c.element-item.is in
-    let apart = subst (λ (numbers : List ℕ). All (λ other. other ≢ c.in_ok-number.number) numbers) c.deref.ensures.value c.in_ok-number.ensures.new in (
+    let apart = subst
+    (λ (numbers : List ℕ). All
+    (λ other. other ≢ c.in_ok-number.number) numbers) c.deref.ensures.value c.in_ok-number.ensures.new in (
       c.in-Ok.ensures.items ∙ rw (c.loop-element.invariant.0, more, c.in_ok-number.ensures.number),
       subst (All (λ number. number < length c.args.switches.now.keys)) (sym c.in-Ok.ensures.items)
           (All-push (λ number. number < length c.args.switches.now.keys) _ _ c.loop-element.invariant.1 c.in_ok-number.ensures.known),

@@ -10,6 +10,7 @@ invariant-loop-element l =
     (l.via.items ≡ map (number_of (map string_bytes l.switches.keys)) (take l.element-index (map view l.elements)))
     × All (λ number. number < length l.switches.keys) l.via.items
     × AllPairs (λ a b. a ≢ b) l.via.items
-    × (first_from (hop_fault_in (map string_bytes l.switches.keys) l.path (map view l.elements)) l.element-index (length l.elements - l.element-index)
+    × (first_from (hop_fault_in (map string_bytes l.switches.keys) l.path (map view l.elements)) l.element-index
+    (length l.elements - l.element-index)
     ≡ first_from (hop_fault_in (map string_bytes l.switches.keys) l.path (map view l.elements)) 0 (length l.elements))
     × (length l.switches.keys ≤ 32)
