@@ -1,24 +1,23 @@
 -- A file with nothing wrong is within all limits.
-use Rattle.std.proofs.Common.{◌≡◌, ◌≢◌, ℕ, zero, suc, ◌+◌, ◌<◌, ◌≤◌, ◌==◌, ◌||◌, Bool, true, false, not, cond, List, [], ◌∷◌, map, take, length, slice_index, Option, Some, None, Result, Ok, Err, pos, codes, refl, sym, ap, subst, ◌∙◌, arith, rules}
-use Rattle.std.specs.Prelude.{All, AllPairs, bytes_eq, is_none, is_some, is_err, nat_abs, nat_le, position, unwrap_or, slice_index_or, int_le, ℤ}
-use Rattle.std.specs.List.{list_any, range_with_len}
+use Rattle.std.proofs.Common.{◌≡◌, ◌≢◌, ℕ, zero, suc, ◌+◌, ◌<◌, ◌≤◌, ◌==◌, Bool, true, false, not, List, [], ◌∷◌, map, take, length, slice_index, Option, Some, None, Ok, codes, refl, sym, ap, subst, ◌∙◌, arith, rules}
+use Rattle.std.specs.Prelude.{All, AllPairs, bytes_eq, is_none, nat_abs, unwrap_or, slice_index_or, ℤ}
+use Rattle.std.specs.List.{list_any}
 use Rattle.std.proofs.lemmas.Bool.{false≢true}
 use Rattle.std.proofs.lemmas.Bool.Decides.{nat_tests}
 use Rattle.std.proofs.lemmas.List.{get_or-map, get_or-take, length-map, length-take-le}
 use Rattle.std.proofs.lemmas.List.Quantifiers.{position-Some}
 use Rattle.std.proofs.lemmas.Slice.Eq.{bytes_eq-Decides}
 use borrow.Author.Tests.{eq-eqb}
-use Rattle.bound_certificate.specs.Limits.{IsNeed}
-use Rattle.toml.specs.Data.{Data, as_array}
+use Rattle.toml.specs.Data.{Data}
 use Rattle.topology.specs.Accepted.{AreNames, HasOneFamily, IsAccepted, IsPath, IsSwitch}
-use Rattle.topology.specs.Faults.{first_fault, first_from, or_else, when}
+use Rattle.topology.specs.Faults.{first_from, or_else, when}
 use Rattle.topology.specs.Fields.{count_fault, entries_of, integer_at, is_between, list_fault, list_place, number_at, number_fault, text_at}
 use Rattle.topology.specs.Names.{is_among, is_name, name_fault}
 use Rattle.topology.specs.Paths.{ends_fault, ends_of, most_paths, need_fault, need_of, path_fault, path_fault_in, paths_fault, paths_of, prefix_at}
 use Rattle.topology.specs.Place.{at_place, key_of}
 use Rattle.topology.specs.Switches.{most_16, most_32, most_switches, name_of, no_entry, site_of, switch_fault, switch_fault_in, switches_fault, switches_of}
-use Rattle.topology.specs.Topology.{Topo, answer, document_fault, document_of, file_fault, root_of, switch_names_of, topo_of, topology_of}
-use Rattle.topology.specs.Via.{hop_fault, hop_fault_in, hops_of, is_no_text, most_via, number_of, switch_of, text_of, via_fault, via_of, via_place}
+use Rattle.topology.specs.Topology.{Topo, answer, document_fault, file_fault, root_of, switch_names_of, topo_of, topology_of}
+use Rattle.topology.specs.Via.{hop_fault, hop_fault_in, hops_of, most_via, number_of, switch_of, text_of, via_fault, via_of, via_place}
 use Rattle.topology.specs.declared.fault.Entry.{Entry}
 use Rattle.topology.specs.declared.fault.Entry.TheVariants as entry
 use Rattle.topology.specs.declared.fault.TopologyFault.{TopologyFault}
@@ -172,7 +171,8 @@ record AreEntries (most : ℕ) (P : ℕ → Data → Type 0) (entries : List Dat
   each : (k : ℕ) → k < length entries → P k (slice_index_or entries k no_entry)
 
 are_switches : (root : Data) → switches_fault root ≡ None
-    → AreEntries most_switches (λ k switch. IsSwitchEntry (map name_of (take k (switches_of root))) switch) (switches_of root)
+    → AreEntries most_switches (λ k switch. IsSwitchEntry (map name_of (take k (switches_of root))) switch)
+    (switches_of root)
 unfolding switches_fault switch_fault_in
 are_switches root none =
     let count = list_right most_switches entry.Switch root (none_first _ _ none) in
@@ -222,7 +222,9 @@ record IsVia (switches : List (List ℕ)) (via : List ℕ) : Type 0 where
   distinct : AllPairs (λ a b. a ≢ b) via
 
 hops_right : (switches : List (List ℕ)) (k : ℕ) (path : Data) → via_fault switches k path ≡ None
-    → AreEntries most_via (λ j element. IsHop switches (map (number_of switches) (take j (hops_of path))) (number_of switches element)) (hops_of path)
+    → AreEntries most_via (λ j element.
+    IsHop switches (map (number_of switches) (take j (hops_of path))) (number_of switches element))
+    (hops_of path)
 unfolding via_fault hop_fault_in
 hops_right switches k path none =
     let third = none_second _ _ (none_second _ _ none) in

@@ -3,7 +3,8 @@
 //! - `topology`: `Topology`, how it is read and what it tells
 //! - `fault`: `TopologyFault`, why a file is refused
 //! - `place`: where a value stands in a file, and the faults that tell the place
-//! - `fields`, `lists`, `names`: texts and numbers by their keys, the lists of entries, the names of entries
+//! - `fields`, `lists`, `entry_name`: texts and numbers by their keys, the lists of entries, the names of entries
+//! - `names`: `Names`, which are numbered
 //! - `switches`, `paths`: the two lists
 //! - `ends`, `via`: the two prefixes of a path, and the switches that it crosses
 //! - `laws`: what holds of every file
@@ -15,6 +16,7 @@
 #![tactic(auto)]
 
 mod ends;
+mod entry_name;
 mod fault;
 mod fields;
 mod laws;
