@@ -3,3 +3,4 @@ pub mod Arguments
 pub mod Defaults
 pub mod Numerals
 pub mod Refusals
+pub mod Plain

@@ -8,7 +8,7 @@ use Rattle.std.specs.Result.{result_ok, OkIff}
 use Rattle.std.specs.Str.Parse.{ParsesUnsigned, digits_value}
 use Rattle.mon_words.specs.Options.{is_numeral, number_if}
 
-own : IsNumeralModel (λ digits. list_all is_ascii_digit digits ≡ true) (digits_value 10)
+pub own : IsNumeralModel (λ digits. list_all is_ascii_digit digits ≡ true) (digits_value 10)
 own = numerals_by_value _ (search rules)
 
 by_result : {E : Type 0} (value : List ℕ) (result : Result ℕ E) → is_numeral value ≡ true

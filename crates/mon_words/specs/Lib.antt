@@ -1,4 +1,5 @@
 pub mod Apps
 pub mod Needs
 pub mod Options
+pub mod Plain
 pub mod Values

@@ -6,6 +6,7 @@
 //! - `matches`: what clap reads in them, and the texts and numbers there
 //! - `opt`: `Opt`, the options with a value; `numeral`: the number that a value spells
 //! - `usage_fault`, `words_fault`: why words are refused
+//! - `laws`: what plain words ask for
 //!
 //! `specs/Values.antt` says what words ask for: exactly the words that clap's definition takes and whose values
 //! their options take. Only want of memory is free.
@@ -13,6 +14,7 @@
 
 mod app;
 mod command;
+mod laws;
 mod matches;
 mod numeral;
 mod opt;
@@ -21,6 +23,7 @@ mod words;
 mod words_fault;
 
 pub use command::Command;
+pub use laws::plain_words;
 pub use opt::Opt;
 pub use usage_fault::UsageFault;
 pub use words::{Words, read_words};

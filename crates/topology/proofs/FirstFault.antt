@@ -3,7 +3,8 @@ use Rattle.std.proofs.Common.{◌≡◌, ℕ, ◌+◌, ◌-◌, ◌<◌, ◌≤�
 use Rattle.topology.specs.Faults.{first_from, or_else}
 use Rattle.topology.specs.declared.fault.TopologyFault.{TopologyFault}
 
-first_from_suc : (test : ℕ → Option TopologyFault) (start count : ℕ) → first_from test start (suc count) ≡ or_else (test start) (first_from test (start + 1) count)
+first_from_suc : (test : ℕ → Option TopologyFault) (start count : ℕ)
+    → first_from test start (suc count) ≡ or_else (test start) (first_from test (start + 1) count)
 unfolding first_from
 first_from_suc test start count = refl
 
@@ -15,16 +16,21 @@ first_from_more test k count below =
     rw counted (first_from_suc test k (count - (k + 1)))
 
 -- a test that gives nothing
-pub first_from_step : (test : ℕ → Option TopologyFault) (k count : ℕ) (whole : Option TopologyFault) → k < count → test k ≡ None
+pub first_from_step : (test : ℕ → Option TopologyFault) (k count : ℕ) (whole : Option TopologyFault) → k < count
+    → test k ≡ None
     → first_from test k (count - k) ≡ whole → first_from test (k + 1) (count - (k + 1)) ≡ whole
 first_from_step test k count whole below right sofar =
-    ap (λ found. or_else found (first_from test (k + 1) (count - (k + 1)))) (sym right) ∙ sym (first_from_more test k count below) ∙ sofar
+    ap (λ found. or_else found (first_from test (k + 1) (count - (k + 1)))) (sym right)
+    ∙ sym (first_from_more test k count below) ∙ sofar
 
 -- a test that gives a fault
-pub first_from_found : (test : ℕ → Option TopologyFault) (k count : ℕ) (whole : Option TopologyFault) (fault : TopologyFault) → k < count → test k ≡ Some fault
+pub first_from_found : (test : ℕ
+    → Option TopologyFault) (k count : ℕ) (whole : Option TopologyFault) (fault : TopologyFault) → k < count
+    → test k ≡ Some fault
     → first_from test k (count - k) ≡ whole → whole ≡ Some fault
 first_from_found test k count whole fault below wrong sofar =
-    sym sofar ∙ first_from_more test k count below ∙ ap (λ found. or_else found (first_from test (k + 1) (count - (k + 1)))) wrong
+    sym sofar ∙ first_from_more test k count below
+    ∙ ap (λ found. or_else found (first_from test (k + 1) (count - (k + 1)))) wrong
 
 -- past the last test
 pub first_from_none : (test : ℕ → Option TopologyFault) (k count : ℕ) (whole : Option TopologyFault) → count ≤ k

@@ -1,3 +1,4 @@
+pub mod Accepted
 pub mod Documents
 pub mod EachEntry
 pub mod FirstFault

@@ -32,7 +32,13 @@ name_of switch = text_at (codes "name") switch
 -- the numbers of a switch
 unfoldable pub site_of : Data → Site
 site_of switch =
-    record { capacity = number_at (codes "capacity") switch; opening = number_at (codes "open") switch; unit = number_at (codes "unit") switch }
+    record {
+      capacity =
+          number_at (codes "capacity") switch;
+      opening = number_at (codes "open") switch;
+      unit = number_at
+          (codes "unit") switch;
+    }
 
 -- what is wrong with the switch of this number, behind switches with these names
 unfoldable pub switch_fault : List (List ℕ) → ℕ → Data → Option TopologyFault

@@ -1,8 +1,6 @@
 -- A topology, as clauses see it, and the file that spells it.
 use Rattle.std.specs.Prelude.{ℕ, ◌≡◌, nat_lt, List, [], ◌∷◌, map, length, position, Option, Some, None, is_none, unwrap_or, Result, Ok, Err, if◌then◌else◌}
-use Rattle.std.specs.Prelude.{String, string_bytes}
 use Rattle.std.specs.Str.{is_utf8}
-use Rattle.std.specs.declared.alloc.Global.{Global}
 use Rattle.bound_certificate.specs.Problem.{Problem}
 use Rattle.topology.specs.declared.ends.Ends.{Ends}
 use Rattle.topology.specs.declared.fault.TopologyFault.{TopologyFault}
@@ -22,9 +20,9 @@ pub record Topo : Type 0 where
   pub problem : Problem
 
 -- the topology of these parts
-abbrev pub seen : List (String Global) → List (String Global) → List Ends → Problem → Topo
+abbrev pub seen : List (List ℕ) → List (List ℕ) → List Ends → Problem → Topo
 seen switches paths between placed =
-    record { switch_names = map string_bytes switches; path_names = map string_bytes paths; ends = between; problem = placed }
+    record { switch_names = switches; path_names = paths; ends = between; problem = placed }
 
 -- the most bytes that a file can have
 abbrev pub most_bytes : ℕ
@@ -48,7 +46,8 @@ topo_of root = record {
   switch_names = switch_names_of root;
   path_names = map name_of (paths_of root);
   ends = map ends_of (paths_of root);
-  problem = record { sites = map site_of (switches_of root); needs = map (need_of (switch_names_of root)) (paths_of root) };
+  problem =
+      record { sites = map site_of (switches_of root); needs = map (need_of (switch_names_of root)) (paths_of root) };
 }
 
 -- what is wrong with a document: with its switches, else with its paths

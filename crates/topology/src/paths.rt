@@ -1,5 +1,5 @@
 //! The paths of a file.
-ghost use Rattle.std.specs.Prelude.{◌≡◌, ◌≢◌, ◌≤◌, [], ◌∷◌, ◌++◌, None, Some, IfOk, IfErr, OnOk, All, map, length, string_bytes};
+ghost use Rattle.std.specs.Prelude.{◌≡◌, ◌≢◌, ◌<◌, ◌≤◌, [], ◌∷◌, ◌++◌, None, Some, IfOk, IfErr, OnOk, All, map, length};
 ghost use Rattle.bound_certificate.specs.Limits.{IsNeed};
 ghost use Rattle.toml.specs.View.{view};
 ghost use Rattle.topology.specs.Faults.{first_from};
@@ -7,14 +7,14 @@ ghost use Rattle.topology.specs.Paths.{ends_of, need_of, need_fault, path_fault,
 ghost use Rattle.topology.specs.Switches.{name_of};
 
 use crate::ends::{Ends, read_ends};
+use crate::entry_name::number_name;
 use crate::fields::number_at;
 use crate::lists::entries_at;
-use crate::names::number_name;
+use crate::names::Names;
 use crate::place::Place;
 use crate::via::read_via;
 use crate::{Entry, TopologyFault, What};
 use bound_certificate::Need;
-use indexmap::IndexSet;
 use sqlite_items::Items;
 use std::alloc::Global;
 use toml::Value;
@@ -22,7 +22,7 @@ use toml::Value;
 /// The paths by their numbers: their names, what they take, and what they ask of a placement.
 #[derive(Drop)]
 pub(crate) struct Paths {
-    pub(crate) names: IndexSet<String>,
+    pub(crate) names: Names,
     pub(crate) ends: Vec<Ends>,
     pub(crate) needs: Vec<Need>,
 }
@@ -32,41 +32,35 @@ pub(crate) struct Paths {
 pub(crate) fn read_paths(
     alloc: Global,
     root: &Value,
-    switches: &IndexSet<String>,
+    switches: &Names,
 ) -> Result<Paths, TopologyFault>
-    requires { length switches.now.keys ≤ 32 }
-    ensures names { IfOk result (λ paths. map string_bytes paths.names.keys ≡ map name_of (paths_of (view root.now))) }
+    ensures names { IfOk result (λ paths. paths.names ≡ map name_of (paths_of (view root.now))) }
     ensures ends { IfOk result (λ paths. paths.ends.items ≡ map ends_of (paths_of (view root.now))) }
-    ensures needs { IfOk result (λ paths. paths.needs.items ≡ map (need_of (map string_bytes switches.now.keys)) (paths_of (view root.now))) }
+    ensures needs { IfOk result (λ paths. paths.needs.items ≡ map (need_of switches.now) (paths_of (view root.now))) }
     ensures some { IfOk result (λ paths. 1 ≤ length paths.needs.items) }
     ensures few { IfOk result (λ paths. length paths.needs.items ≤ 64) }
-    ensures each { IfOk result (λ paths. All (IsNeed (length switches.now.keys)) paths.needs.items) }
-    ensures right { OnOk result (paths_fault (map string_bytes switches.now.keys) (view root.now) ≡ None) }
+    ensures each { IfOk result (λ paths. All (IsNeed (length switches.now)) paths.needs.items) }
+    ensures right { OnOk result (paths_fault switches.now (view root.now) ≡ None) }
     ensures fault { IfErr result (λ fault. fault ≢ TopologyFault.Memory
-        → paths_fault (map string_bytes switches.now.keys) (view root.now) ≡ Some fault) }
+        → paths_fault switches.now (view root.now) ≡ Some fault) }
 {
     let entries = entries_at(root, Entry::Path, 64)?;
     read_each(alloc, entries, switches)
 }
 
 // Reads each path.
-fn read_each(
-    alloc: Global,
-    entries: &[Value],
-    switches: &IndexSet<String>,
-) -> Result<Paths, TopologyFault>
+fn read_each(alloc: Global, entries: &[Value], switches: &Names) -> Result<Paths, TopologyFault>
     requires few { length entries.now ≤ 64 }
-    requires switches { length switches.now.keys ≤ 32 }
-    ensures names { IfOk result (λ paths. map string_bytes paths.names.keys ≡ map name_of (map view entries.now)) }
+    ensures names { IfOk result (λ paths. paths.names ≡ map name_of (map view entries.now)) }
     ensures ends { IfOk result (λ paths. paths.ends.items ≡ map ends_of (map view entries.now)) }
-    ensures needs { IfOk result (λ paths. paths.needs.items ≡ map (need_of (map string_bytes switches.now.keys)) (map view entries.now)) }
-    ensures each { IfOk result (λ paths. All (IsNeed (length switches.now.keys)) paths.needs.items) }
+    ensures needs { IfOk result (λ paths. paths.needs.items ≡ map (need_of switches.now) (map view entries.now)) }
+    ensures each { IfOk result (λ paths. All (IsNeed (length switches.now)) paths.needs.items) }
     ensures right { OnOk result
-        (first_from (path_fault_in (map string_bytes switches.now.keys) (map view entries.now)) 0 (length entries.now) ≡ None) }
+        (first_from (path_fault_in switches.now (map view entries.now)) 0 (length entries.now) ≡ None) }
     ensures fault { IfErr result (λ fault. fault ≢ TopologyFault.Memory
-        → first_from (path_fault_in (map string_bytes switches.now.keys) (map view entries.now)) 0 (length entries.now) ≡ Some fault) }
+        → first_from (path_fault_in switches.now (map view entries.now)) 0 (length entries.now) ≡ Some fault) }
 {
-    let mut names = IndexSet::new(alloc);
+    let mut names = Names::new(alloc);
     let mut ends = Vec::new(alloc);
     let mut needs = Vec::new(alloc);
     for (index, entry) in entries.iter().enumerate() {
@@ -87,18 +81,18 @@ fn read_path(
     alloc: Global,
     entry: &Value,
     index: u32,
-    switches: &IndexSet<String>,
-    names: &mut IndexSet<String>,
+    switches: &Names,
+    names: &mut Names,
 ) -> Result<(Ends, Need), TopologyFault>
-    requires { length switches.now.keys ≤ 32 }
-    ensures numbered { OnOk result (map string_bytes names.new.keys ≡ map string_bytes names.old.keys ++ (name_of (view entry.now) ∷ [])) }
+    requires room { length names.old < 64 }
+    ensures numbered { OnOk result (names.new ≡ names.old ++ (name_of (view entry.now) ∷ [])) }
     ensures ends { IfOk result (λ path. path.0 ≡ ends_of (view entry.now)) }
-    ensures need { IfOk result (λ path. path.1 ≡ need_of (map string_bytes switches.now.keys) (view entry.now)) }
-    ensures within { IfOk result (λ path. IsNeed (length switches.now.keys) path.1) }
+    ensures need { IfOk result (λ path. path.1 ≡ need_of switches.now (view entry.now)) }
+    ensures within { IfOk result (λ path. IsNeed (length switches.now) path.1) }
     ensures right { OnOk result
-        (path_fault (map string_bytes switches.now.keys) (map string_bytes names.old.keys) index (view entry.now) ≡ None) }
+        (path_fault switches.now names.old index (view entry.now) ≡ None) }
     ensures fault { IfErr result (λ fault. fault ≢ TopologyFault.Memory
-        → path_fault (map string_bytes switches.now.keys) (map string_bytes names.old.keys) index (view entry.now) ≡ Some fault) }
+        → path_fault switches.now names.old index (view entry.now) ≡ Some fault) }
 {
     let place = Place {
         entry: Entry::Path,
@@ -117,14 +111,13 @@ fn read_need(
     alloc: Global,
     entry: &Value,
     index: u32,
-    switches: &IndexSet<String>,
+    switches: &Names,
 ) -> Result<Need, TopologyFault>
-    requires { length switches.now.keys ≤ 32 }
-    ensures need { IfOk result (λ need. need ≡ need_of (map string_bytes switches.now.keys) (view entry.now)) }
-    ensures within { IfOk result (IsNeed (length switches.now.keys)) }
-    ensures right { OnOk result (need_fault (map string_bytes switches.now.keys) index (view entry.now) ≡ None) }
+    ensures need { IfOk result (λ need. need ≡ need_of switches.now (view entry.now)) }
+    ensures within { IfOk result (IsNeed (length switches.now)) }
+    ensures right { OnOk result (need_fault switches.now index (view entry.now) ≡ None) }
     ensures fault { IfErr result (λ fault. fault ≢ TopologyFault.Memory
-        → need_fault (map string_bytes switches.now.keys) index (view entry.now) ≡ Some fault) }
+        → need_fault switches.now index (view entry.now) ≡ Some fault) }
 {
     let place = Place {
         entry: Entry::Path,

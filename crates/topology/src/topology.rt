@@ -5,11 +5,11 @@ ghost use Rattle.topology.specs.Topology.{topology_of, topo_of, document_fault, 
 
 use crate::TopologyFault;
 use crate::ends::{Ends, first_taking};
+use crate::names::Names;
 use crate::paths::read_paths;
 use crate::switches::read_switches;
 use bound_certificate::Problem;
 use flow_keys::FlowKey;
-use indexmap::IndexSet;
 use std::alloc::Global;
 use std::marker::Model;
 use toml::Value;
@@ -20,8 +20,8 @@ const MOST_BYTES: usize = 1_048_576;
 /// The switches and the paths of a network, by their numbers from 0 in file order.
 #[derive(Drop)]
 pub struct Topology {
-    switch_names: IndexSet<String>,
-    path_names: IndexSet<String>,
+    switch_names: Names,
+    path_names: Names,
     ends: Vec<Ends>,
     problem: Problem,
 }
@@ -31,9 +31,10 @@ impl Model for Topology {
 
     ghost Value = { Topo };
 
-    ghost view = { λ topology. seen topology.switch_names.keys topology.path_names.keys topology.ends.items topology.problem };
+    ghost view = { λ topology. seen topology.switch_names topology.path_names topology.ends.items topology.problem };
 
-    ghost invariant = { λ topology. HasEqualCounts (seen topology.switch_names.keys topology.path_names.keys topology.ends.items topology.problem) };
+    ghost invariant = { λ topology.
+        HasEqualCounts (seen topology.switch_names topology.path_names topology.ends.items topology.problem) };
 }
 
 impl Topology {
@@ -61,7 +62,8 @@ impl Topology {
     fn of_root(alloc: Global, root: &Value) -> Result<Topology, TopologyFault>
         ensures topology { IfOk result (λ topology. topology ≡ topo_of (view root.now)) }
         ensures right { OnOk result (document_fault (view root.now) ≡ None) }
-        ensures fault { IfErr result (λ fault. fault ≢ TopologyFault.Memory → document_fault (view root.now) ≡ Some fault) }
+        ensures fault { IfErr result (λ fault. fault ≢ TopologyFault.Memory
+            → document_fault (view root.now) ≡ Some fault) }
     {
         let switches = read_switches(alloc, root)?;
         let paths = read_paths(alloc, root, &switches.names)?;
@@ -94,7 +96,7 @@ impl Topology {
         requires { switch < length self.now.switch_names }
         ensures name { result.now ≡ slice_index_or self.now.switch_names switch [] }
     {
-        name_at(&self.switch_names, switch)
+        self.switch_names.get(switch)
     }
 
     /// The name of a path.
@@ -102,7 +104,7 @@ impl Topology {
         requires { path < length self.now.path_names }
         ensures name { result.now ≡ slice_index_or self.now.path_names path [] }
     {
-        name_at(&self.path_names, path)
+        self.path_names.get(path)
     }
 
     /// The problem to place each path on a switch of its via: switches are its sites and paths its
@@ -141,16 +143,5 @@ fn read_root(alloc: Global, bytes: &[u8]) -> Result<Value, TopologyFault>
                 Err(TopologyFault::NotToml)
             }
         }
-    }
-}
-
-// The name of a number.
-fn name_at(names: &IndexSet<String>, number: usize) -> &str
-    requires { number < length names.now.keys }
-    ensures value { result.now ≡ slice_index_or (map string_bytes names.now.keys) number [] }
-{
-    match names.get_index(number) {
-        Some(name) => name.as_str(),
-        None => "",
     }
 }

@@ -1,17 +1,16 @@
 //! The via of a path.
-ghost use Rattle.std.specs.Prelude.{◌≡◌, ◌≢◌, ◌<◌, ◌≤◌, ◌==◌, [], ◌∷◌, ◌++◌, None, Some, IfOk, IfErr, IfSome, IsFalse, OnOk, All, AllPairs, map, length, string_bytes};
+ghost use Rattle.std.specs.Prelude.{◌≡◌, ◌≢◌, ◌<◌, ◌≤◌, ◌==◌, [], ◌∷◌, ◌++◌, None, Some, IfOk, IfErr, IfSome, IsFalse, OnOk, All, AllPairs, map, length};
 ghost use Rattle.std.specs.List.{list_any};
-ghost use Rattle.indexmap.specs.IndexSet.{index_set_len};
 ghost use Rattle.toml.specs.View.{view};
 ghost use Rattle.topology.specs.Faults.{first_from};
 ghost use Rattle.topology.specs.Fields.{elements_at};
 ghost use Rattle.topology.specs.Place.{key_of};
-ghost use Rattle.topology.specs.Via.{is_no_text, text_of, switch_of, number_of, hop_fault, hop_fault_in, via_of, via_fault};
+ghost use Rattle.topology.specs.Via.{is_no_text, text_of, number_of, hop_fault, hop_fault_in, via_of, via_fault};
 
 use crate::lists::{check_count, elements_at};
+use crate::names::Names;
 use crate::place::Place;
 use crate::{Entry, TopologyFault, What};
-use indexmap::IndexSet;
 use std::alloc::Global;
 use toml::Value;
 
@@ -21,17 +20,16 @@ pub(crate) fn read_via(
     alloc: Global,
     entry: &Value,
     index: u32,
-    switches: &IndexSet<String>,
+    switches: &Names,
 ) -> Result<Vec<u8>, TopologyFault>
-    requires { length switches.now.keys ≤ 32 }
-    ensures via { IfOk result (λ via. via.items ≡ via_of (map string_bytes switches.now.keys) (view entry.now)) }
+    ensures via { IfOk result (λ via. via.items ≡ via_of switches.now (view entry.now)) }
     ensures some { IfOk result (λ via. 1 ≤ length via.items) }
     ensures few { IfOk result (λ via. length via.items ≤ 8) }
-    ensures known { IfOk result (λ via. All (λ number. number < length switches.now.keys) via.items) }
+    ensures known { IfOk result (λ via. All (λ number. number < length switches.now) via.items) }
     ensures distinct { IfOk result (λ via. AllPairs (λ a b. a ≢ b) via.items) }
-    ensures right { OnOk result (via_fault (map string_bytes switches.now.keys) index (view entry.now) ≡ None) }
+    ensures right { OnOk result (via_fault switches.now index (view entry.now) ≡ None) }
     ensures fault { IfErr result (λ fault. fault ≢ TopologyFault.Memory
-        → via_fault (map string_bytes switches.now.keys) index (view entry.now) ≡ Some fault) }
+        → via_fault switches.now index (view entry.now) ≡ Some fault) }
 {
     let place = Place {
         entry: Entry::Path,
@@ -65,16 +63,15 @@ fn number_each(
     alloc: Global,
     elements: &[Value],
     path: u32,
-    switches: &IndexSet<String>,
+    switches: &Names,
 ) -> Result<Vec<u8>, TopologyFault>
-    requires { length switches.now.keys ≤ 32 }
-    ensures via { IfOk result (λ via. via.items ≡ map (number_of (map string_bytes switches.now.keys)) (map view elements.now)) }
-    ensures known { IfOk result (λ via. All (λ number. number < length switches.now.keys) via.items) }
+    ensures via { IfOk result (λ via. via.items ≡ map (number_of switches.now) (map view elements.now)) }
+    ensures known { IfOk result (λ via. All (λ number. number < length switches.now) via.items) }
     ensures distinct { IfOk result (λ via. AllPairs (λ a b. a ≢ b) via.items) }
     ensures right { OnOk result
-        (first_from (hop_fault_in (map string_bytes switches.now.keys) path (map view elements.now)) 0 (length elements.now) ≡ None) }
+        (first_from (hop_fault_in switches.now path (map view elements.now)) 0 (length elements.now) ≡ None) }
     ensures fault { IfErr result (λ fault. fault ≢ TopologyFault.Memory
-        → first_from (hop_fault_in (map string_bytes switches.now.keys) path (map view elements.now)) 0 (length elements.now) ≡ Some fault) }
+        → first_from (hop_fault_in switches.now path (map view elements.now)) 0 (length elements.now) ≡ Some fault) }
 {
     let mut via = Vec::new(alloc);
     for element in elements {
@@ -92,16 +89,15 @@ fn number_hop(
     element: &Value,
     earlier: &[u8],
     path: u32,
-    switches: &IndexSet<String>,
+    switches: &Names,
 ) -> Result<u8, TopologyFault>
-    requires { length switches.now.keys ≤ 32 }
-    ensures number { IfOk result (λ number. number ≡ number_of (map string_bytes switches.now.keys) (view element.now)) }
-    ensures known { IfOk result (λ number. number < length switches.now.keys) }
+    ensures number { IfOk result (λ number. number ≡ number_of switches.now (view element.now)) }
+    ensures known { IfOk result (λ number. number < length switches.now) }
     ensures new { IfOk result (λ number. All (λ before. before ≢ number) earlier.now) }
-    ensures right { OnOk result (hop_fault (map string_bytes switches.now.keys) path earlier.now (view element.now) ≡ None) }
-    ensures fault { IfErr result (λ fault. hop_fault (map string_bytes switches.now.keys) path earlier.now (view element.now) ≡ Some fault) }
+    ensures right { OnOk result (hop_fault switches.now path earlier.now (view element.now) ≡ None) }
+    ensures fault { IfErr result (λ fault. hop_fault switches.now path earlier.now (view element.now) ≡ Some fault) }
 {
-    let Some(number) = switch_of(switches, text_of(element)) else {
+    let Some(number) = switches.number_of(text_of(element)) else {
         return Err(TopologyFault::UnknownSwitch { path });
     };
     if is_among(earlier, number) {
@@ -117,19 +113,6 @@ fn text_of(element: &Value) -> &str
     match element.as_str() {
         Some(text) => text,
         None => "",
-    }
-}
-
-// The number of the switch with this name.
-#[tactic(auto, using(crate::proofs::SeenLists::seen_lists))]
-fn switch_of(switches: &IndexSet<String>, name: &str) -> Option<u8>
-    requires { length switches.now.keys ≤ 32 }
-    ensures number { result ≡ switch_of (map string_bytes switches.now.keys) name.now }
-    ensures within { IfSome result (λ number. number < length switches.now.keys) }
-{
-    match switches.get_index_of(name) {
-        Some(number) => Some(number as u8),
-        None => None,
     }
 }
 

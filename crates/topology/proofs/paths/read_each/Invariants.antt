@@ -1,5 +1,5 @@
 -- So far the names, the prefixes and the needs are those of the entries in front, of which each is right.
-use Rattle.std.proofs.Common.{◌≡◌, ◌≤◌, ◌-◌, All, map, take, length, string_bytes}
+use Rattle.std.proofs.Common.{◌≡◌, ◌-◌, All, map, take, length}
 use Rattle.bound_certificate.specs.Limits.{IsNeed}
 use Rattle.toml.specs.View.{view}
 use Rattle.topology.specs.Faults.{first_from}
@@ -9,10 +9,10 @@ use Rattle.topology.proofs.paths.read_each.Given as goal
 
 abbrev pub invariant-loop-index : goal.invariant-loop-index
 invariant-loop-index l =
-    (map string_bytes l.names.keys ≡ map name_of (take l.index (map view l.entries)))
+    (l.names ≡ map name_of (take l.index (map view l.entries)))
     × (l.ends.items ≡ map ends_of (take l.index (map view l.entries)))
-    × (l.needs.items ≡ map (need_of (map string_bytes l.switches.keys)) (take l.index (map view l.entries)))
-    × All (IsNeed (length l.switches.keys)) l.needs.items
-    × (first_from (path_fault_in (map string_bytes l.switches.keys) (map view l.entries)) l.index (length l.entries - l.index)
-    ≡ first_from (path_fault_in (map string_bytes l.switches.keys) (map view l.entries)) 0 (length l.entries))
-    × (length l.switches.keys ≤ 32)
+    × (l.needs.items ≡ map (need_of l.switches) (take l.index (map view l.entries)))
+    × All (IsNeed (length l.switches)) l.needs.items
+    × (first_from (path_fault_in l.switches (map view l.entries)) l.index
+    (length l.entries - l.index)
+    ≡ first_from (path_fault_in l.switches (map view l.entries)) 0 (length l.entries))

@@ -13,5 +13,7 @@ new-requires c =
       few_sites = c.in_ok-switches.ensures.few;
       some_needs = c.in_ok-paths.ensures.some;
       few_needs = c.in_ok-paths.ensures.few;
-      each = subst (λ (sites : ℕ). All (IsNeed sites) c.in_ok-paths.paths.needs.items) (named ∙ sym sited) c.in_ok-paths.ensures.each;
+      each =
+          subst (λ (sites : ℕ). All (IsNeed sites) c.in_ok-paths.paths.needs.items) (named
+          ∙ sym sited) c.in_ok-paths.ensures.each;
     }

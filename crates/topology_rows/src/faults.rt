@@ -1,8 +1,8 @@
-// What is wrong with one entry, as the first and as the last of its list.
-use super::{PATH, SWITCH, fault_of, file_of};
-use crate::{Entry, TopologyFault, What};
+//! What is wrong with one entry, as the first and as the last of its list.
+use crate::made::{PATH, SWITCH, fault_of, file_of};
 use std::alloc::{AllocError, Global};
 use std::test::Fail;
+use topology::{Entry, TopologyFault, What};
 
 // What is wrong with a value, and with how many elements.
 #[derive(Clone, Copy)]

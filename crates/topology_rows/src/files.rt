@@ -1,8 +1,8 @@
-// Files as a whole, and their two lists.
-use super::{PATH, SWITCH, fault_of, file_of};
-use crate::{Entry, Topology, TopologyFault, What};
+//! Files as a whole, and their two lists.
+use crate::made::{PATH, SWITCH, fault_of, file_of};
 use std::alloc::{AllocError, Global};
 use std::test::Fail;
+use topology::{Entry, Topology, TopologyFault, What};
 
 const FILE: &str = "[[switch]]
 name = \"s0\"

@@ -1,9 +1,9 @@
-// The paths that keys take.
-use super::{SWITCH, file_of};
-use crate::Topology;
+//! The paths that keys take.
+use crate::made::{SWITCH, file_of};
 use flow_keys::FlowKey;
 use std::process::Abort;
 use std::test::Fail;
+use topology::Topology;
 
 const WIDE: &str = "{name='wide',from='10.0.0.0/8',to='0.0.0.0/0',load=5,via=['s0']}";
 

@@ -1,0 +1,14 @@
+use Rattle.mon_words.proofs.Plain.{central_plain, check_plain, epoch_plain, total_plain}
+use Rattle.mon_words.proofs.laws.plain_words.Goals as goal
+
+pub returns-clause-total : goal.returns-clause-total
+returns-clause-total c = total_plain
+
+pub returns-clause-central : goal.returns-clause-central
+returns-clause-central c = central_plain
+
+pub returns-clause-epoch : goal.returns-clause-epoch
+returns-clause-epoch c = epoch_plain
+
+pub returns-clause-check : goal.returns-clause-check
+returns-clause-check c = check_plain

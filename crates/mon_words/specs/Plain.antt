@@ -1,0 +1,25 @@
+-- What plain words ask for.
+use Rattle.std.specs.Prelude.{◌≡◌, ◌==◌, ℕ, List, false, None, Option, slice_index}
+use Rattle.mon_words.specs.Options.{default_heap}
+use Rattle.mon_words.specs.Values.{Values}
+use Rattle.mon_words.specs.declared.command.Command.{Command}
+
+-- a word that doesn't begin with a hyphen
+abbrev pub IsPlain : List ℕ → Type 0
+IsPlain word = (slice_index word 0 == 45) ≡ false
+
+-- a command with these names, and this epoch where one is given; each other option has its default
+abbrev pub plain_values : Command → List (List ℕ) → Option ℕ → Values
+plain_values command names epoch = record {
+  command = command;
+  names = names;
+  topology = None;
+  seed = 1;
+  levels = 12;
+  rows = 5;
+  width = 1024;
+  heap = default_heap command;
+  bytes = false;
+  epoch = epoch;
+  heavy = 10;
+}
