@@ -232,7 +232,7 @@ tickets_set (m ∷ marks) zero x below same = ap (λ (t : ℕ). t ∷ tickets ma
 tickets_set (m ∷ marks) (suc i) x below same = ap (λ (ts : List ℕ). m.ticket ∷ ts) (tickets_set marks i x (omega (arith, below)) same)
 
 -- a ticket that isn't out is none of them
-none_filtered : (marks : List Mark) (t : ℕ) → is_out marks t ≡ false → filter (λ s. not (s == t)) (tickets marks) ≡ tickets marks
+pub none_filtered : (marks : List Mark) (t : ℕ) → is_out marks t ≡ false → filter (λ s. not (s == t)) (tickets marks) ≡ tickets marks
 unfolding tickets
 none_filtered [] t h = refl
 none_filtered (m ∷ marks) t h =
@@ -255,3 +255,14 @@ tickets_remove next (m ∷ marks) (suc i) below h =
     ] in
     ap (λ (ts : List ℕ). m.ticket ∷ ts) (tickets_remove next marks i less h.2)
     ∙ sym (ap (λ (b : Bool). cond (not b) (m.ticket ∷ filter (λ s. not (s == ticket_at marks i)) (tickets marks)) (filter (λ s. not (s == ticket_at marks i)) (tickets marks))) apart)
+
+-- without a ticket that isn't out all is as it is
+without_none : (a b : Bool) → (a ≡ true → b ≡ false) → b ≡ (not a && b)
+without_none true b h = h refl
+without_none false b h = refl
+
+pub none_left_out : (marks : List Mark) (ticket t : ℕ) → is_out marks ticket ≡ false → is_out marks t ≡ (not (t == ticket) && is_out marks t)
+none_left_out marks ticket t h = without_none (t == ticket) (is_out marks t) (λ same. ap (is_out marks) (eqb-true t ticket same) ∙ h)
+
+pub none_left_sealed : (marks : List Mark) (ticket t : ℕ) → is_out marks ticket ≡ false → is_sealed marks t ≡ (not (t == ticket) && is_sealed marks t)
+none_left_sealed marks ticket t h = without_none (t == ticket) (is_sealed marks t) (λ same. ap (is_sealed marks) (eqb-true t ticket same) ∙ none_sealed marks ticket h)

@@ -1,5 +1,5 @@
 //! The tickets that are out, in the order of their starts.
-ghost use Rattle.std.specs.Prelude.{◌≡◌, ℕ, ◌+◌, ◌-◌, ◌^◌, ◌<◌, ◌==◌, ◌||◌, ◌&&◌, not, true, false, [], ◌∷◌, ◌++◌, Some, OnOk, filter, length, slice_get};
+ghost use Rattle.std.specs.Prelude.{◌≡◌, ℕ, ◌+◌, ◌-◌, ◌^◌, ◌<◌, ◌≤◌, ◌==◌, ◌||◌, ◌&&◌, not, true, false, [], ◌∷◌, ◌++◌, Some, OnOk, filter, length, slice_get};
 ghost use Rattle.roster.specs.Roster.{AreIssued, is_out, is_sealed, no_marks, ticket_at, tickets};
 
 use crate::Mark;
@@ -58,9 +58,11 @@ impl Roster {
         self.marks.len()
     }
 
-    /// Whether a ticket is out.
+    /// Whether a ticket is out. Each that is was issued.
+    #[tactic(auto, using(crate::proofs::Marks::out_issued))]
     pub fn is_out(&self, ticket: u32) -> bool
         ensures value { result ≡ is_out self.now.marks ticket }
+        ensures known { AreIssued self.now }
     {
         has(&self.marks, ticket)
     }
@@ -159,5 +161,21 @@ impl Roster {
         ensures order { tickets self.new.marks ≡ filter (λ t. not (t == ticket_at self.old.marks place)) (tickets self.old.marks) }
     {
         self.marks.remove(place);
+    }
+
+    /// Takes out a ticket, if it is out.
+    #[tactic(auto, using(crate::proofs::Marks::none_left_out, crate::proofs::Marks::none_left_sealed))]
+    pub fn remove(&mut self, ticket: u32)
+        ensures issued { self.new.issued ≡ self.old.issued }
+        ensures count { length self.new.marks ≤ length self.old.marks }
+        ensures out { (t : ℕ) → is_out self.new.marks t ≡ (not (t == ticket) && is_out self.old.marks t) }
+        ensures sealed { (t : ℕ) → is_sealed self.new.marks t ≡ (not (t == ticket) && is_sealed self.old.marks t) }
+        ensures order { tickets self.new.marks ≡ filter (λ t. not (t == ticket)) (tickets self.old.marks) }
+        ensures known { AreIssued self.new }
+    {
+        if self.is_out(ticket) {
+            let place = self.place_of(ticket);
+            self.leave(place);
+        }
     }
 }
