@@ -4,6 +4,7 @@ use super::{FRAME, HEAD, LITTLE, joined, run, three_frames};
 use mon_command::{Status, TraceFault};
 use mon_io::{MemInputs, MemSink};
 use std::alloc::{AllocError, Global};
+use std::process::Abort;
 use std::test::Fail;
 
 // The heads of a record of 42 captured bytes: of no original byte, and of as many as the field holds; the latter also
@@ -99,13 +100,13 @@ fn the_greatest_weight_is_taken(rt: HostRuntime) -> Result<(), Fail> {
 
 // A record more of a trace of 4,096, the words, and the fault.
 fn assert_fault(
-    rt: &HostRuntime,
+    rt: &impl Abort,
+    alloc: Global,
     line: &str,
     frame: &[u8],
     more: &[u8],
     fault: TraceFault,
 ) -> Result<(), Fail> {
-    let alloc = rt.alloc();
     let mut bytes = repeated(alloc, 4096, &GREATEST, frame)?;
     bytes.extend_from_slice(more)?;
     bytes.extend_from_slice(&FRAME)?;
@@ -119,7 +120,7 @@ fn assert_fault(
 #[test]
 fn a_heavy_record_is_told(rt: HostRuntime) -> Result<(), Fail> {
     let heavy = TraceFault::Weight { number: 4096 };
-    assert_fault(&rt, LINE, &FRAME, &GREATEST, heavy)
+    assert_fault(&rt, rt.alloc(), LINE, &FRAME, &GREATEST, heavy)
 }
 
 #[test]
@@ -129,7 +130,7 @@ fn late_is_told_before_heavy(rt: HostRuntime) -> Result<(), Fail> {
         index: 8,
     };
     let line = "central A --weight bytes --epoch 60";
-    assert_fault(&rt, line, &FRAME, &LATE, late)
+    assert_fault(&rt, rt.alloc(), line, &FRAME, &LATE, late)
 }
 
 #[test]
@@ -137,5 +138,5 @@ fn records_without_a_key_count_towards_the_limit(rt: HostRuntime) -> Result<(), 
     let mut arp = FRAME;
     arp[13] = 6;
     let heavy = TraceFault::Weight { number: 4096 };
-    assert_fault(&rt, LINE, &arp, &GREATEST, heavy)
+    assert_fault(&rt, rt.alloc(), LINE, &arp, &GREATEST, heavy)
 }
