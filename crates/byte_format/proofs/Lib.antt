@@ -1,0 +1,4 @@
+pub mod Formats
+pub mod Keys
+pub mod Numbers
+pub mod Yields

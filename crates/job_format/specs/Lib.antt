@@ -1,0 +1,4 @@
+pub mod Given
+pub mod Job
+pub mod Places
+pub mod Read

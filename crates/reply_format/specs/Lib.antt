@@ -1,0 +1,4 @@
+pub mod Outcomes
+pub mod Places
+pub mod Read
+pub mod Reply
