@@ -61,6 +61,12 @@ abbrev pub expect_of : ExpectEnum → Expect
 expect_of (expects.Replay job params items weight) = ExpectReplay (head_of job (setting_of params) items weight)
 expect_of (expects.Solve job) = ExpectSolve job
 
+-- the numbers of the sketch are within their limits
+abbrev pub IsExpect : Expect → Type 0
+IsExpect (ExpectReplay head) =
+    IsTrue (are_within head.setting.levels head.setting.rows head.setting.width head.setting.heap)
+IsExpect (ExpectSolve number) = Unit {0}
+
 -- a reply is one to what is expected
 abbrev pub Answers : Expect → Reply → Type 0
 Answers (ExpectReplay head) (Replay reply) = reply.head ≡ head

@@ -1,0 +1,13 @@
+//! Replies of a child, written and read.
+//!
+//! - `write`: `write_reply`, in version 2, which leaves out the counters that are 0
+//! - `read`: `read_reply`, of either version, to a job that is known
+//!
+//! Both take memory.
+#![tactic(auto)]
+
+mod read;
+mod write;
+
+pub use read::read_reply;
+pub use write::write_reply;
