@@ -1,0 +1,17 @@
+//! A child: it reads one job and writes its reply.
+//!
+//! - `status`: `ChildStatus`, how a child ends
+//! - `child`: `answer`, which reads the job from standard input, whatever its pieces, and writes the reply
+//! - `worker`: `WorkerAnswer`, which answers jobs in memory
+//!
+//! `specs/Replies.antt` says which bytes answer a job: a spelling of the reply that holds the sketch of its items, or of
+//! a right outcome for its problem. `specs/Child.antt` says what each way to end shows.
+#![tactic(auto)]
+
+mod child;
+mod status;
+mod worker;
+
+pub use child::answer;
+pub use status::ChildStatus;
+pub use worker::WorkerAnswer;
