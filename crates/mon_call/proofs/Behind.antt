@@ -4,13 +4,14 @@ use Rattle.mon_io.specs.Faults.{Rose}
 use Rattle.mon_io.specs.Inputs.{InputState, IsLeft, IsOver, Picked}
 use Rattle.mon_io.specs.Sink.{SinkState}
 use Rattle.certificate_text.specs.declared.fault.CertFault.{CertFault}
+use Rattle.job_format.specs.declared.fault.JobFault.{JobFault}
 use Rattle.routed_trace.specs.declared.fault.TraceFault.{TraceFault}
 use Rattle.topology.specs.declared.fault.TopologyFault.{TopologyFault}
 use Rattle.mon_call.specs.Call.{Answers, Duty, IsSuffix, Picks, Reading, call_of, names_of, names_to, reading}
 use Rattle.mon_call.specs.declared.status.Input.{Input}
 use Rattle.mon_call.specs.declared.status.Input.TheVariants as inputs
 use Rattle.mon_call.specs.declared.status.Status.{Status}
-use Rattle.mon_call.specs.declared.status.Status.TheVariants.{Done, Usage, ReadFault, Topology, Trace, Certificate, SinkFault, Memory}
+use Rattle.mon_call.specs.declared.status.Status.TheVariants.{Done, Usage, ReadFault, Topology, Trace, Certificate, Job, SinkFault, Memory}
 
 -- what is left of an input behind another one is a suffix
 pub suffix_left : (contents mid now : Option (List ℕ)) → IsOver mid → IsLeft contents mid now → IsSuffix contents now
@@ -32,6 +33,7 @@ pub record IsBehind (inner outer : Duty) (before mid : Option (List ℕ)) : Type
   pub unfit : (fault : TopologyFault) → inner.unfit fault → ⊥
   pub refused : (fault : TraceFault) → inner.refused fault → outer.refused fault
   pub uncertified : (fault : CertFault) → inner.uncertified fault → outer.uncertified fault
+  pub misspelled : (fault : JobFault) → inner.misspelled fault → outer.misspelled fault
   pub left : (input : Input) (now : Option (List ℕ)) → inner.left input mid now → outer.left input before now
   pub once : (now : Option (List ℕ)) → inner.left inputs.Topology mid now → ⊥
 
@@ -47,6 +49,8 @@ answers_behind before mid after sink sink_after (Topology fault) behind later an
 answers_behind before mid after sink sink_after (Trace fault) behind later answers = (behind.refused fault answers.0, answers.1)
 answers_behind before mid after sink sink_after (Certificate fault) behind later answers =
     (behind.uncertified fault answers.0, answers.1)
+answers_behind before mid after sink sink_after (Job fault) behind later answers =
+    (behind.misspelled fault answers.0, answers.1)
 answers_behind before mid after sink sink_after SinkFault behind later answers = (
   answers.0,
   record { text = answers.1.text; is_due = behind.due answers.1.text answers.1.is_due; part = answers.1.part },
@@ -69,11 +73,15 @@ picks_behind a b c name more before mid after sink sink_after (ReadFault inputs.
     picked_more a b c (name ∷ []) (names_to inputs.Trace more) first picks
 picks_behind a b c name more before mid after sink sink_after (ReadFault inputs.Tree) behind answers first picks =
     picked_more a b c (name ∷ []) (names_to inputs.Tree more) first picks
+picks_behind a b c name more before mid after sink sink_after (ReadFault inputs.Job) behind answers first picks =
+    picked_more a b c (name ∷ []) (names_to inputs.Job more) first picks
 picks_behind a b c name more before mid after sink sink_after (Topology fault) behind answers first picks = absurd (behind.unfit fault answers.0)
 picks_behind a b c name more before mid after sink sink_after (Trace fault) behind answers first picks =
     picked_more a b c (name ∷ []) (names_to inputs.Trace more) first picks
 picks_behind a b c name more before mid after sink sink_after (Certificate fault) behind answers first picks =
     picked_more a b c (name ∷ []) (names_to inputs.Tree more) first picks
+picks_behind a b c name more before mid after sink sink_after (Job fault) behind answers first picks =
+    picked_more a b c (name ∷ []) (names_to inputs.Job more) first picks
 picks_behind a b c name more before mid after sink sink_after SinkFault behind answers first picks = picked_more a b c (name ∷ []) (names_of more) first picks
 picks_behind a b c name more before mid after sink sink_after Memory behind answers first picks = record {
   front = name ∷ picks.front;

@@ -4,12 +4,13 @@ use Rattle.mon_io.specs.Faults.{Rose}
 use Rattle.mon_io.specs.Inputs.{InputState, Picked, PickedNothing}
 use Rattle.mon_io.specs.Sink.{SinkState, Grew, GrewByPart}
 use Rattle.certificate_text.specs.declared.fault.CertFault.{CertFault}
+use Rattle.job_format.specs.declared.fault.JobFault.{JobFault}
 use Rattle.routed_trace.specs.declared.fault.TraceFault.{TraceFault}
 use Rattle.topology.specs.declared.fault.TopologyFault.{TopologyFault}
 use Rattle.mon_call.specs.declared.status.Input.{Input}
 use Rattle.mon_call.specs.declared.status.Input.TheVariants as inputs
 use Rattle.mon_call.specs.declared.status.Status.{Status}
-use Rattle.mon_call.specs.declared.status.Status.TheVariants.{Done, Usage, ReadFault, Topology, Trace, Certificate, SinkFault, Memory}
+use Rattle.mon_call.specs.declared.status.Status.TheVariants.{Done, Usage, ReadFault, Topology, Trace, Certificate, Job, SinkFault, Memory}
 
 -- the inputs and the sink, before and after
 pub record Call : Type 0 where
@@ -38,6 +39,7 @@ pub record Duty : Type 1 where
   pub unfit : TopologyFault → Type 0
   pub refused : TraceFault → Type 0
   pub uncertified : CertFault → Type 0
+  pub misspelled : JobFault → Type 0
   pub left : Input → Option (List ℕ) → Option (List ℕ) → Type 0
 
 -- nothing was appended
@@ -65,6 +67,7 @@ Answers duty call (ReadFault input) =
 Answers duty call (Topology fault) = duty.unfit fault × IsSilent call
 Answers duty call (Trace fault) = duty.refused fault × IsSilent call
 Answers duty call (Certificate fault) = duty.uncertified fault × IsSilent call
+Answers duty call (Job fault) = duty.misspelled fault × IsSilent call
 Answers duty call SinkFault = Rose call.sink.faults call.sink_after.faults × WrotePart duty.due call
 Answers duty call Memory = IsSilent call
 
@@ -82,6 +85,7 @@ Finishes before after text (ReadFault input) = ⊥
 Finishes before after text (Topology fault) = ⊥
 Finishes before after text (Trace fault) = ⊥
 Finishes before after text (Certificate fault) = ⊥
+Finishes before after text (Job fault) = ⊥
 Finishes before after text SinkFault = Rose before.faults after.faults × GrewByPart before.written after.written text
 Finishes before after text Memory = ⊥
 
@@ -90,12 +94,19 @@ abbrev pub is_input : Input → Input → Bool
 is_input inputs.Topology inputs.Topology = true
 is_input inputs.Trace inputs.Trace = true
 is_input inputs.Tree inputs.Tree = true
+is_input inputs.Job inputs.Job = true
 is_input inputs.Topology inputs.Trace = false
 is_input inputs.Topology inputs.Tree = false
+is_input inputs.Topology inputs.Job = false
 is_input inputs.Trace inputs.Topology = false
 is_input inputs.Trace inputs.Tree = false
+is_input inputs.Trace inputs.Job = false
 is_input inputs.Tree inputs.Topology = false
 is_input inputs.Tree inputs.Trace = false
+is_input inputs.Tree inputs.Job = false
+is_input inputs.Job inputs.Topology = false
+is_input inputs.Job inputs.Trace = false
+is_input inputs.Job inputs.Tree = false
 
 -- the names of all inputs that are read, in their order
 abbrev pub names_of : List Reading → List (List ℕ)
@@ -122,6 +133,7 @@ Picks before after reads (ReadFault input) = Picked before after (names_to input
 Picks before after reads (Topology fault) = Picked before after (names_to inputs.Topology reads)
 Picks before after reads (Trace fault) = Picked before after (names_to inputs.Trace reads)
 Picks before after reads (Certificate fault) = Picked before after (names_to inputs.Tree reads)
+Picks before after reads (Job fault) = Picked before after (names_to inputs.Job reads)
 Picks before after reads SinkFault = Picked before after (names_of reads)
 Picks before after reads Memory = PickedSome before after (names_of reads)
 

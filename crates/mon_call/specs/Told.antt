@@ -3,7 +3,7 @@ use Rattle.std.specs.Prelude.{◌≡◌, ℕ, List, Option, Some}
 use Rattle.mon_io.specs.Faults.{Rose}
 use Rattle.mon_call.specs.Call.{Call, Duty}
 use Rattle.mon_call.specs.declared.status.Status.{Status}
-use Rattle.mon_call.specs.declared.status.Status.TheVariants.{Done, Usage, ReadFault, Topology, Trace, Certificate, SinkFault, Memory}
+use Rattle.mon_call.specs.declared.status.Status.TheVariants.{Done, Usage, ReadFault, Topology, Trace, Certificate, Job, SinkFault, Memory}
 
 -- no count of faults rose
 pub record IsSmooth (call : Call) : Type 0 where
@@ -22,6 +22,7 @@ Shows duty (ReadFault input) = ⊥
 Shows duty (Topology fault) = duty.unfit fault
 Shows duty (Trace fault) = duty.refused fault
 Shows duty (Certificate fault) = duty.uncertified fault
+Shows duty (Job fault) = duty.misspelled fault
 Shows duty SinkFault = ⊥
 Shows duty Memory = ⊥
 

@@ -6,7 +6,7 @@ use Rattle.topology.specs.Topology.{Topo, topology_of}
 use Rattle.topology.specs.declared.fault.TopologyFault.{TopologyFault}
 use Rattle.mon_call.specs.declared.status.Input.TheVariants as inputs
 use Rattle.mon_call.specs.declared.status.Status.{Status}
-use Rattle.mon_call.specs.declared.status.Status.TheVariants.{Done, Usage, ReadFault, Topology, Trace, Certificate, SinkFault, Memory}
+use Rattle.mon_call.specs.declared.status.Status.TheVariants.{Done, Usage, ReadFault, Topology, Trace, Certificate, Job, SinkFault, Memory}
 
 -- the topology that told contents spell
 abbrev pub SpellTopology : Option (List ℕ) → Topo → Type 0
@@ -25,8 +25,10 @@ ReadsTopology contents before now (Err (ReadFault inputs.Topology)) =
     Rose before.faults now.faults × IsLeft contents before.rest now.rest
 ReadsTopology contents before now (Err (ReadFault inputs.Trace)) = ⊥
 ReadsTopology contents before now (Err (ReadFault inputs.Tree)) = ⊥
+ReadsTopology contents before now (Err (ReadFault inputs.Job)) = ⊥
 ReadsTopology contents before now (Err (Topology fault)) = IsUnfit contents fault
 ReadsTopology contents before now (Err (Trace fault)) = ⊥
 ReadsTopology contents before now (Err (Certificate fault)) = ⊥
+ReadsTopology contents before now (Err (Job fault)) = ⊥
 ReadsTopology contents before now (Err SinkFault) = ⊥
 ReadsTopology contents before now (Err Memory) = ⊤

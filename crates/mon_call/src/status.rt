@@ -1,6 +1,7 @@
 //! How a call ended.
 
 use certificate_text::CertFault;
+use job_format::JobFault;
 use mon_words::UsageFault;
 use routed_trace::TraceFault;
 use topology::TopologyFault;
@@ -20,6 +21,8 @@ pub enum Status {
     Trace(TraceFault),
     /// The certificate is refused, by its first fault.
     Certificate(CertFault),
+    /// The job of a child is refused, by its first breach, which is never `Memory`.
+    Job(JobFault),
     /// The text could not be written to its end.
     SinkFault,
     /// A growth was refused.
@@ -35,4 +38,6 @@ pub enum Input {
     Trace,
     /// The tree.
     Tree,
+    /// The job of a child.
+    Job,
 }

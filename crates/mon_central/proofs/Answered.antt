@@ -39,6 +39,7 @@ alone contents trace setting before = record {
   unfit = λ fault unfit. unfit;
   refused = λ fault refused. ((None, refl), refused);
   uncertified = λ fault uncertified. uncertified;
+  misspelled = λ fault misspelled. misspelled;
   left = λ input now left. left;
   once = λ now left. left;
 }
@@ -56,6 +57,7 @@ behind contents mid_contents trace name topology setting before mid same spelled
   unfit = λ fault unfit. unfit;
   refused = λ fault refused. ((Some topology, (topology, refl, spelled)), subst (λ (f : Contents). IsRefused f trace setting fault) same refused);
   uncertified = λ fault uncertified. uncertified;
+  misspelled = λ fault misspelled. misspelled;
   left = left;
   once = λ now left. left;
 }
@@ -67,3 +69,4 @@ behind contents mid_contents trace name topology setting before mid same spelled
       subst (λ (f : Contents). IsSuffix (f trace) now) same (suffix_left (mid_contents trace) mid.rest now over is),
     )
     left inputs.Tree now is = absurd is
+    left inputs.Job now is = absurd is

@@ -14,7 +14,7 @@ use Rattle.routed_trace.proofs.Readings.{advanced_badly, begun_badly, stopped_at
 use Rattle.mon_call.specs.Trace.{ReadsTrace, status_at}
 use Rattle.mon_call.specs.declared.setting.Setting.{Setting}
 use Rattle.mon_call.specs.declared.status.Status.{Status}
-use Rattle.mon_call.specs.declared.status.Status.TheVariants.{Done, Usage, ReadFault, Topology, Trace, Certificate, SinkFault, Memory}
+use Rattle.mon_call.specs.declared.status.Status.TheVariants.{Done, Usage, ReadFault, Topology, Trace, Certificate, Job, SinkFault, Memory}
 use Rattle.mon_central.specs.Duty.{Contents, IsRefused}
 use Rattle.mon_central.specs.Sketched.{Counted, IsSketched}
 use Rattle.mon_central.specs.declared.epochs.Epochs.{Epochs}
@@ -60,5 +60,6 @@ counted_stop contents trace topology setting epochs before now next header membe
 counted_stop contents trace topology setting epochs before now next header members member (Trace fault) same so_far divided counted =
     stopped_at setting.division topology epochs.counts (contents trace) now.rest next header members member fault same so_far divided counted
 counted_stop contents trace topology setting epochs before now next header members member (Certificate fault) same so_far divided counted = absurd counted
+counted_stop contents trace topology setting epochs before now next header members member (Job fault) same so_far divided counted = absurd counted
 counted_stop contents trace topology setting epochs before now next header members member SinkFault same so_far divided counted = absurd counted
 counted_stop contents trace topology setting epochs before now next header members member Memory same so_far divided counted = tt

@@ -8,7 +8,7 @@ use Rattle.routed_trace.proofs.Fronts.{accepted_trace, one_trace_fault}
 use Rattle.mon_call.specs.Told.{HasBytes, IsTold, Shows}
 use Rattle.mon_call.specs.declared.setting.Setting.{Setting}
 use Rattle.mon_call.specs.declared.status.Status.{Status}
-use Rattle.mon_call.specs.declared.status.Status.TheVariants.{Done, Usage, ReadFault, Topology, Trace, Certificate, SinkFault, Memory}
+use Rattle.mon_call.specs.declared.status.Status.TheVariants.{Done, Usage, ReadFault, Topology, Trace, Certificate, Job, SinkFault, Memory}
 use Rattle.mon_call.proofs.Topologies.{at_bytes, bad_or_good, good_or_bad, one_topology_fault}
 use Rattle.mon_central.specs.Duty.{Contents, HasToldTopology, HasToldUnfit, HasTopology, IsCentral, IsRefused, IsUnfitNamed, TellsCentral, central_duty}
 
@@ -54,6 +54,7 @@ when_accepted contents trace name setting (ReadFault input) told shows = absurd 
 when_accepted contents trace name setting (Topology fault) told shows = absurd (no_unfit contents name fault told.0 shows)
 when_accepted contents trace name setting (Trace fault) told shows = absurd (no_fault contents trace setting fault told.1 shows.1)
 when_accepted contents trace name setting (Certificate fault) told shows = absurd shows
+when_accepted contents trace name setting (Job fault) told shows = absurd shows
 when_accepted contents trace name setting SinkFault told shows = absurd shows
 when_accepted contents trace name setting Memory told shows = absurd shows
 
@@ -66,6 +67,7 @@ when_unfit contents trace name setting fault (ReadFault input) told shows = absu
 when_unfit contents trace name setting fault (Topology other) told shows = ap Topology (one_unfit contents name fault other told shows)
 when_unfit contents trace name setting fault (Trace other) told shows = absurd (no_topology contents name fault told shows.0)
 when_unfit contents trace name setting fault (Certificate other) told shows = absurd shows
+when_unfit contents trace name setting fault (Job other) told shows = absurd shows
 when_unfit contents trace name setting fault SinkFault told shows = absurd shows
 when_unfit contents trace name setting fault Memory told shows = absurd shows
 
@@ -78,6 +80,7 @@ when_refused contents trace name setting fault (ReadFault input) told shows = ab
 when_refused contents trace name setting fault (Topology other) told shows = absurd (no_unfit contents name other told.0 shows)
 when_refused contents trace name setting fault (Trace other) told shows = ap Trace (same_fault contents trace setting fault other told.1 shows.1)
 when_refused contents trace name setting fault (Certificate other) told shows = absurd shows
+when_refused contents trace name setting fault (Job other) told shows = absurd shows
 when_refused contents trace name setting fault SinkFault told shows = absurd shows
 when_refused contents trace name setting fault Memory told shows = absurd shows
 
@@ -89,5 +92,6 @@ central_told contents trace name setting (ReadFault input) told = absurd told
 central_told contents trace name setting (Topology fault) told = record { alone = λ status shows. when_unfit contents trace name setting fault status told shows }
 central_told contents trace name setting (Trace fault) told = record { alone = λ status shows. when_refused contents trace name setting fault status told shows }
 central_told contents trace name setting (Certificate fault) told = absurd told
+central_told contents trace name setting (Job fault) told = absurd told
 central_told contents trace name setting SinkFault told = absurd told
 central_told contents trace name setting Memory told = absurd told

@@ -15,7 +15,7 @@ use Rattle.mon_call.specs.declared.setting.Setting.{Setting}
 use Rattle.mon_call.specs.declared.status.Input.{Input}
 use Rattle.mon_call.specs.declared.status.Input.TheVariants as inputs
 use Rattle.mon_call.specs.declared.status.Status.{Status}
-use Rattle.mon_call.specs.declared.status.Status.TheVariants.{Done, Usage, ReadFault, Topology, Trace, Certificate, SinkFault, Memory}
+use Rattle.mon_call.specs.declared.status.Status.TheVariants.{Done, Usage, ReadFault, Topology, Trace, Certificate, Job, SinkFault, Memory}
 use Rattle.mon_central.specs.Central.{central_text}
 
 -- the contents by name
@@ -64,6 +64,7 @@ abbrev pub report_left : Contents → List ℕ → Input → Option (List ℕ) �
 report_left contents trace inputs.Topology before now = ⊥
 report_left contents trace inputs.Trace before now = IsLeft (contents trace) before now
 report_left contents trace inputs.Tree before now = ⊥
+report_left contents trace inputs.Job before now = ⊥
 
 -- what is left of an input: the topology, where one is named, was read to its end and has no fault before the trace
 abbrev pub central_left : Contents → List ℕ → Option (List ℕ) → Input → Option (List ℕ) → Option (List ℕ) → Type 0
@@ -72,6 +73,7 @@ central_left contents trace (Some name) inputs.Topology before now = IsLeft (con
 central_left contents trace (Some name) inputs.Trace before now =
     HasTopology contents (Some name) × IsSuffix (contents trace) now
 central_left contents trace (Some name) inputs.Tree before now = ⊥
+central_left contents trace (Some name) inputs.Job before now = ⊥
 
 -- what the report on a trace owes, behind the topology
 abbrev pub report_duty : Contents → List ℕ → Option Topo → Setting → Duty
@@ -81,6 +83,7 @@ report_duty contents trace topology setting = record {
   unfit = λ fault. ⊥;
   refused = IsRefused contents trace setting;
   uncertified = λ fault. ⊥;
+  misspelled = λ fault. ⊥;
   left = report_left contents trace;
 }
 
@@ -92,6 +95,7 @@ central_duty contents trace name setting = record {
   unfit = IsUnfitNamed contents name;
   refused = λ fault. HasTopology contents name × IsRefused contents trace setting fault;
   uncertified = λ fault. ⊥;
+  misspelled = λ fault. ⊥;
   left = central_left contents trace name;
 }
 
@@ -115,5 +119,6 @@ TellsCentral contents trace name setting (Topology fault) = HasToldUnfit content
 TellsCentral contents trace name setting (Trace fault) =
     HasToldTopology contents name × HasBytes (contents trace) (λ bytes. HasTraceFault setting.division bytes fault)
 TellsCentral contents trace name setting (Certificate fault) = ⊥
+TellsCentral contents trace name setting (Job fault) = ⊥
 TellsCentral contents trace name setting SinkFault = ⊥
 TellsCentral contents trace name setting Memory = ⊥

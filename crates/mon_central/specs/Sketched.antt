@@ -18,7 +18,7 @@ use Rattle.routed_trace.specs.Counts.{Added, AreCounts}
 use Rattle.routed_trace.specs.Routed.{items_in, number_of_epochs, routed_of, weight_of_routed}
 use Rattle.topology.specs.Topology.{Topo}
 use Rattle.mon_call.specs.declared.status.Status.{Status}
-use Rattle.mon_call.specs.declared.status.Status.TheVariants.{Done, Usage, ReadFault, Topology, Trace, Certificate, SinkFault, Memory}
+use Rattle.mon_call.specs.declared.status.Status.TheVariants.{Done, Usage, ReadFault, Topology, Trace, Certificate, Job, SinkFault, Memory}
 use Rattle.mon_call.specs.Setting.{is_setting}
 use Rattle.mon_central.specs.Central.{central_view, levels_setting, kept_keys}
 use Rattle.mon_central.specs.Live.{AreLive, AreWeighed}
@@ -138,6 +138,7 @@ Counted setting topology epochs header members member (Err (Topology fault)) = �
 Counted setting topology epochs header members member (Err (Trace fault)) =
     Added setting.division topology epochs.counts header members member (Err fault)
 Counted setting topology epochs header members member (Err (Certificate fault)) = ⊥
+Counted setting topology epochs header members member (Err (Job fault)) = ⊥
 Counted setting topology epochs header members member (Err SinkFault) = ⊥
 Counted setting topology epochs header members member (Err Memory) = ⊤
 

@@ -12,7 +12,7 @@ use Rattle.mon_call.specs.Topology.{SpellTopology}
 use Rattle.mon_call.specs.declared.status.Input.{Input}
 use Rattle.mon_call.specs.declared.status.Input.TheVariants as inputs
 use Rattle.mon_call.specs.declared.status.Status.{Status}
-use Rattle.mon_call.specs.declared.status.Status.TheVariants.{Done, Usage, ReadFault, Topology, Trace, Certificate, SinkFault, Memory}
+use Rattle.mon_call.specs.declared.status.Status.TheVariants.{Done, Usage, ReadFault, Topology, Trace, Certificate, Job, SinkFault, Memory}
 use Rattle.mon_call.proofs.Behind.{IsBehind, suffix_left}
 use Rattle.mon_check.specs.Checked.{AreRead, HasCertFault, IsCertified, IsMisspelled, ReadsOnly}
 use Rattle.mon_check.specs.Duty.{Contents, ReadsCertificate, certify_duty, check_duty, check_left, tree_left, tree_reads}
@@ -72,6 +72,7 @@ behind contents mid_contents topology tree topo before mid same spelled over = r
   unfit = λ fault unfit. unfit;
   refused = λ fault refused. refused;
   uncertified = λ fault has. (topo, spelled, subst (λ (f : Contents). HasCertFault (f tree) topo.problem fault) same has);
+  misspelled = λ fault has. absurd has;
   left = left;
   once = λ now left. left;
 }
@@ -83,6 +84,7 @@ behind contents mid_contents topology tree topo before mid same spelled over = r
       (topo, spelled),
       subst (λ (f : Contents). IsSuffix (f tree) now) same (suffix_left (mid_contents tree) mid.rest now over is),
     )
+    left inputs.Job now is = absurd is
 
 -- a certificate that is not read or is misspelled
 pub uncertified : (contents : Contents) (tree : List ℕ) (problem : Problem) (call : Call) (status : Status) → IsSilent call
@@ -92,6 +94,7 @@ uncertified contents tree problem call (Usage fault) silent same reads = absurd 
 uncertified contents tree problem call (ReadFault inputs.Topology) silent same reads = absurd reads
 uncertified contents tree problem call (ReadFault inputs.Trace) silent same reads = absurd reads
 uncertified contents tree problem call (ReadFault inputs.Tree) silent same reads = (reads.0, reads.1, silent)
+uncertified contents tree problem call (ReadFault inputs.Job) silent same reads = absurd reads
 uncertified contents tree problem call (Topology fault) silent same reads = absurd reads
 uncertified contents tree problem call (Trace fault) silent same reads = absurd reads
 uncertified contents tree problem call (Certificate fault) silent same reads = (has_fault fault reads, silent)
@@ -102,6 +105,7 @@ uncertified contents tree problem call (Certificate fault) silent same reads = (
     has_fault (cert.Line number) is = is
     has_fault (cert.Node node why) is = absurd is
     has_fault cert.Memory is = absurd is
+uncertified contents tree problem call (Job fault) silent same reads = absurd reads
 uncertified contents tree problem call SinkFault silent same reads = absurd reads
 uncertified contents tree problem call Memory silent same reads = silent
 
@@ -112,9 +116,11 @@ picks_uncertified before after contents name call (Usage fault) reads picked = a
 picks_uncertified before after contents name call (ReadFault inputs.Topology) reads picked = absurd reads
 picks_uncertified before after contents name call (ReadFault inputs.Trace) reads picked = absurd reads
 picks_uncertified before after contents name call (ReadFault inputs.Tree) reads picked = picked
+picks_uncertified before after contents name call (ReadFault inputs.Job) reads picked = absurd reads
 picks_uncertified before after contents name call (Topology fault) reads picked = absurd reads
 picks_uncertified before after contents name call (Trace fault) reads picked = absurd reads
 picks_uncertified before after contents name call (Certificate fault) reads picked = picked
+picks_uncertified before after contents name call (Job fault) reads picked = absurd reads
 picks_uncertified before after contents name call SinkFault reads picked = absurd reads
 picks_uncertified before after contents name call Memory reads picked =
     record { front = name ∷ []; back = []; parts = refl; picked = picked }

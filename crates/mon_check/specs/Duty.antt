@@ -16,7 +16,7 @@ use Rattle.mon_call.specs.Topology.{IsUnfit, SpellTopology}
 use Rattle.mon_call.specs.declared.status.Input.{Input}
 use Rattle.mon_call.specs.declared.status.Input.TheVariants as inputs
 use Rattle.mon_call.specs.declared.status.Status.{Status}
-use Rattle.mon_call.specs.declared.status.Status.TheVariants.{Done, Usage, ReadFault, Topology, Trace, Certificate, SinkFault, Memory}
+use Rattle.mon_call.specs.declared.status.Status.TheVariants.{Done, Usage, ReadFault, Topology, Trace, Certificate, Job, SinkFault, Memory}
 use Rattle.mon_check.specs.Checked.{AreRead, HasCertFault, IsCertified, IsChecked, IsMisspelled}
 
 -- the contents by name
@@ -35,6 +35,7 @@ abbrev pub tree_left : Contents → List ℕ → Input → Option (List ℕ) →
 tree_left contents tree inputs.Topology before now = ⊥
 tree_left contents tree inputs.Trace before now = ⊥
 tree_left contents tree inputs.Tree before now = IsLeft (contents tree) before now
+tree_left contents tree inputs.Job before now = ⊥
 
 -- what is left of an input: the topology was read to its end and has no fault before the tree
 abbrev pub check_left : Contents → List ℕ → List ℕ → Input → Option (List ℕ) → Option (List ℕ) → Type 0
@@ -42,6 +43,7 @@ check_left contents topology tree inputs.Topology before now = IsLeft (contents 
 check_left contents topology tree inputs.Trace before now = ⊥
 check_left contents topology tree inputs.Tree before now =
     ((topo : Topo) × SpellTopology (contents topology) topo) × IsSuffix (contents tree) now
+check_left contents topology tree inputs.Job before now = ⊥
 
 -- what the check of a certificate owes, for a problem
 abbrev pub certify_duty : Contents → List ℕ → Problem → Duty
@@ -51,6 +53,7 @@ certify_duty contents tree problem = record {
   unfit = λ fault. ⊥;
   refused = λ fault. ⊥;
   uncertified = HasCertFault (contents tree) problem;
+  misspelled = λ fault. ⊥;
   left = tree_left contents tree;
 }
 
@@ -62,6 +65,7 @@ check_duty contents topology tree = record {
   unfit = IsUnfit (contents topology);
   refused = λ fault. ⊥;
   uncertified = λ fault. (topo : Topo) × SpellTopology (contents topology) topo × HasCertFault (contents tree) topo.problem fault;
+  misspelled = λ fault. ⊥;
   left = check_left contents topology tree;
 }
 
@@ -74,9 +78,11 @@ ReadsCertificate contents before now (Err (ReadFault inputs.Topology)) = ⊥
 ReadsCertificate contents before now (Err (ReadFault inputs.Trace)) = ⊥
 ReadsCertificate contents before now (Err (ReadFault inputs.Tree)) =
     Rose before.faults now.faults × IsLeft contents before.rest now.rest
+ReadsCertificate contents before now (Err (ReadFault inputs.Job)) = ⊥
 ReadsCertificate contents before now (Err (Topology fault)) = ⊥
 ReadsCertificate contents before now (Err (Trace fault)) = ⊥
 ReadsCertificate contents before now (Err (Certificate fault)) = IsMisspelled contents fault
+ReadsCertificate contents before now (Err (Job fault)) = ⊥
 ReadsCertificate contents before now (Err SinkFault) = ⊥
 ReadsCertificate contents before now (Err Memory) = ⊤
 
@@ -107,5 +113,6 @@ TellsCheck contents topology tree (ReadFault input) = ⊥
 TellsCheck contents topology tree (Topology fault) = HasBytes (contents topology) (λ bytes. topology_of bytes ≡ Err fault)
 TellsCheck contents topology tree (Trace fault) = ⊥
 TellsCheck contents topology tree (Certificate fault) = HasBoth (contents topology) (contents tree) (IsNoCertificate fault)
+TellsCheck contents topology tree (Job fault) = ⊥
 TellsCheck contents topology tree SinkFault = ⊥
 TellsCheck contents topology tree Memory = ⊥

@@ -8,12 +8,13 @@ use Rattle.routed_trace.specs.declared.fault.TraceFault.TheVariants.{Pcap, Epoch
 use Rattle.mon_call.specs.Call.{Call, UnlessMemory}
 use Rattle.mon_call.specs.Told.{HasBytes, IsTold, Shows}
 use Rattle.mon_call.specs.declared.status.Status.{Status}
-use Rattle.mon_call.specs.declared.status.Status.TheVariants.{Done, Usage, ReadFault, Topology, Trace, Certificate, SinkFault, Memory}
+use Rattle.mon_call.specs.declared.status.Status.TheVariants.{Done, Usage, ReadFault, Topology, Trace, Certificate, Job, SinkFault, Memory}
 use Rattle.mon_call.proofs.Telling.{tells}
 use Rattle.mon_call.proofs.Topologies.{at_bytes}
 use Rattle.mon_central.proofs.Told.{central_told}
 use Rattle.mon_check.proofs.Told.{check_told}
-use Rattle.mon_command.specs.Asked.{Asked, Total, Central, Check}
+use Rattle.mon_child.proofs.Told.{child_told}
+use Rattle.mon_command.specs.Asked.{Asked, Total, Central, Check, Child}
 use Rattle.mon_command.specs.Outcome.{IsCalm, Outcome, Tells, duty_of}
 use Rattle.mon_command.specs.Total.{TellsTotal, total_duty}
 
@@ -28,6 +29,7 @@ when_accepted contents trace (Trace (Pcap fault)) told shows =
 when_accepted contents trace (Trace (Epochs number index)) told shows = absurd shows
 when_accepted contents trace (Trace (Weight number)) told shows = absurd shows
 when_accepted contents trace (Certificate fault) told shows = absurd shows
+when_accepted contents trace (Job fault) told shows = absurd shows
 when_accepted contents trace SinkFault told shows = absurd shows
 when_accepted contents trace Memory told shows = absurd shows
 
@@ -46,6 +48,7 @@ when_broken contents trace fault (Trace (Pcap other)) told shows =
 when_broken contents trace fault (Trace (Epochs number index)) told shows = absurd shows
 when_broken contents trace fault (Trace (Weight number)) told shows = absurd shows
 when_broken contents trace fault (Certificate other) told shows = absurd shows
+when_broken contents trace fault (Job other) told shows = absurd shows
 when_broken contents trace fault SinkFault told shows = absurd shows
 when_broken contents trace fault Memory told shows = absurd shows
 
@@ -58,6 +61,7 @@ total_told contents trace (Trace (Pcap fault)) told = record { alone = λ status
 total_told contents trace (Trace (Epochs number index)) told = absurd told
 total_told contents trace (Trace (Weight number)) told = absurd told
 total_told contents trace (Certificate fault) told = absurd told
+total_told contents trace (Job fault) told = absurd told
 total_told contents trace SinkFault told = absurd told
 total_told contents trace Memory told = absurd told
 
@@ -65,6 +69,7 @@ is_told : (asked : Asked) (call : Call) (wanted : Status) → Tells call asked w
 is_told (Total trace) call wanted told = total_told (call.inputs.contents trace) trace wanted told
 is_told (Central trace topology setting) call wanted told = central_told call.inputs.contents trace topology setting wanted told
 is_told (Check topology tree) call wanted told = check_told call.inputs.contents topology tree wanted told
+is_told Child call wanted told = child_told (call.inputs.contents (codes "-")) wanted told
 
 pub answers_told : (before after : List (List ℕ) → Type 0) (read : Result Asked UsageFault) (asked : Asked) (call : Call) (wanted status : Status)
     → Outcome before after read call status → IsCalm read asked call → Tells call asked wanted → UnlessMemory wanted status

@@ -12,12 +12,15 @@ pub data Asked : Type 0 where
   Total : List ℕ → Asked
   Central : List ℕ → Option (List ℕ) → Setting → Asked
   Check : List ℕ → List ℕ → Asked
+  Child : Asked
 
--- the command, of the trace that the first name names, or of the topology and the tree that both names name
+-- the command, of the trace that the first name names, of the topology and the tree that both names name, or of
+-- standard input
 abbrev pub asked_by : Command → Values → Asked
 asked_by words.Total values = Total (slice_index_or values.names 0 [])
 asked_by words.Central values = Central (slice_index_or values.names 0 []) values.topology (setting_in values)
 asked_by words.Check values = Check (slice_index_or values.names 0 []) (slice_index_or values.names 1 [])
+asked_by words.Child values = Child
 
 abbrev pub asked_in : Values → Asked
 asked_in values = asked_by values.command values

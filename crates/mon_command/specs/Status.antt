@@ -6,10 +6,12 @@ use Rattle.pcap_reader.specs.declared.fault.PcapFault.TheVariants as pcap
 use Rattle.certificate_text.specs.declared.fault.CertFault.{CertFault}
 use Rattle.certificate_text.specs.declared.fault.CertFault.TheVariants as certificate
 use Rattle.bound_certificate.specs.declared.verdict.TreeWhy.{TreeWhy}
+use Rattle.job_format.specs.declared.fault.JobFault.{JobFault}
+use Rattle.job_format.specs.declared.fault.JobFault.TheVariants as job
 use Rattle.bound_certificate.specs.declared.verdict.TreeWhy.TheVariants as why
 use Rattle.mon_call.specs.declared.status.Input.TheVariants as inputs
 use Rattle.mon_call.specs.declared.status.Status.{Status}
-use Rattle.mon_call.specs.declared.status.Status.TheVariants.{Done, Usage, ReadFault, Topology, Trace, Certificate, SinkFault, Memory}
+use Rattle.mon_call.specs.declared.status.Status.TheVariants.{Done, Usage, ReadFault, Topology, Trace, Certificate, Job, SinkFault, Memory}
 use Rattle.routed_trace.specs.declared.fault.TraceFault.{TraceFault}
 use Rattle.routed_trace.specs.declared.fault.TraceFault.TheVariants.{Pcap, Epochs, Weight}
 use Rattle.mon_words.specs.Options.{name_of}
@@ -31,6 +33,7 @@ number_of (Topology fault) = 4
 number_of (Trace fault) = 5
 number_of SinkFault = 10
 number_of (Certificate fault) = 11
+number_of (Job fault) = 12
 number_of Memory = 13
 
 -- one digit of a number below 16
@@ -130,6 +133,15 @@ certificate_line (certificate.Line number) = codes "univmon: certificate: line "
 certificate_line (certificate.Node node w) = node_line node w
 certificate_line certificate.Memory = codes "univmon: out of memory"
 
+-- why the input of a child is no job
+abbrev pub job_line : JobFault → List ℕ
+job_line job.Short = codes "univmon: job: short"
+job_line job.Magic = codes "univmon: job: magic"
+job_line job.Version = codes "univmon: job: version"
+job_line job.Shape = codes "univmon: job: shape"
+job_line job.Extra = codes "univmon: job: extra"
+job_line job.Memory = codes "univmon: out of memory"
+
 -- the line that is printed on standard error, empty where the work was done
 abbrev pub line_of : Status → List ℕ
 line_of Done = []
@@ -137,8 +149,10 @@ line_of (Usage fault) = usage_line fault
 line_of (ReadFault inputs.Topology) = codes "univmon: cannot read topology"
 line_of (ReadFault inputs.Trace) = codes "univmon: cannot read trace"
 line_of (ReadFault inputs.Tree) = codes "univmon: cannot read tree"
+line_of (ReadFault inputs.Job) = codes "univmon: cannot read job"
 line_of (Topology fault) = topology_line fault
 line_of (Trace fault) = trace_line fault
 line_of (Certificate fault) = certificate_line fault
+line_of (Job fault) = job_line fault
 line_of SinkFault = codes "univmon: cannot write"
 line_of Memory = codes "univmon: out of memory"

@@ -13,7 +13,7 @@ use Rattle.mon_call.specs.Told.{HasBytes}
 use Rattle.mon_call.specs.declared.status.Input.{Input}
 use Rattle.mon_call.specs.declared.status.Input.TheVariants as inputs
 use Rattle.mon_call.specs.declared.status.Status.{Status}
-use Rattle.mon_call.specs.declared.status.Status.TheVariants.{Done, Usage, ReadFault, Topology, Trace, Certificate, SinkFault, Memory}
+use Rattle.mon_call.specs.declared.status.Status.TheVariants.{Done, Usage, ReadFault, Topology, Trace, Certificate, Job, SinkFault, Memory}
 use Rattle.mon_command.specs.declared.total.Counts.{Counts}
 
 -- the lines of a number of packets, of which so many have a key
@@ -51,6 +51,7 @@ abbrev pub total_left : Option (List ℕ) → Input → Option (List ℕ) → Op
 total_left contents inputs.Topology before now = ⊥
 total_left contents inputs.Trace before now = IsLeft contents before now
 total_left contents inputs.Tree before now = ⊥
+total_left contents inputs.Job before now = ⊥
 
 -- what the command owes, of the contents of the trace
 abbrev pub total_duty : Option (List ℕ) → List ℕ → Duty
@@ -60,6 +61,7 @@ total_duty contents trace = record {
   unfit = λ fault. ⊥;
   refused = IsBroken contents;
   uncertified = λ fault. ⊥;
+  misspelled = λ fault. ⊥;
   left = total_left contents;
 }
 
@@ -73,5 +75,6 @@ TellsTotal contents (Trace (Pcap fault)) = HasBytes contents (λ bytes. (members
 TellsTotal contents (Trace (Epochs number index)) = ⊥
 TellsTotal contents (Trace (Weight number)) = ⊥
 TellsTotal contents (Certificate fault) = ⊥
+TellsTotal contents (Job fault) = ⊥
 TellsTotal contents SinkFault = ⊥
 TellsTotal contents Memory = ⊥

@@ -1,5 +1,5 @@
 //! The commands that start nobody.
-ghost use Rattle.std.specs.Prelude.{◌≡◌, map, string_bytes};
+ghost use Rattle.std.specs.Prelude.{◌≡◌, Ok, map, string_bytes};
 ghost use Rattle.mon_words.specs.Values.{IsInRange};
 ghost use Rattle.mon_call.specs.Call.{Keeps, UnlessMemory, call_of};
 ghost use Rattle.mon_command.specs.Asked.{Asked, asked_in, asked_of};
@@ -7,11 +7,14 @@ ghost use Rattle.mon_command.specs.Outcome.{Answered, IsCalm, Outcome, Tells};
 ghost use Rattle.certificate_text.specs.declared.fault.CertFault.{CertFault};
 ghost use Rattle.routed_trace.specs.declared.fault.TraceFault.{TraceFault};
 ghost use Rattle.topology.specs.declared.fault.TopologyFault.{TopologyFault};
+ghost use Rattle.job_format.specs.declared.fault.JobFault.{JobFault};
+ghost use Rattle.mon_io.specs.Inputs.{IsOver};
 
 use crate::total::total;
 use mon_call::{Setting, Status};
 use mon_central::{central_alone, central_routed};
 use mon_check::check_tree;
+use mon_child::child;
 use mon_io::{Inputs, Sink};
 use mon_words::{Command, Words, WordsFault, read_words};
 use std::alloc::Global;
@@ -50,6 +53,16 @@ pub fn run_alone<I: Inputs, K: Sink>(
         let call = call_of (I.state inputs.old) (I.state inputs.new) (K.state sink.old) (K.state sink.new) in
         IsCalm (asked_of (map string_bytes words.now)) asked call → Tells call asked (Status.Certificate fault) →
         UnlessMemory (Status.Certificate fault) result }
+
+    // A breach of the job is told, unless memory runs out.
+    ensures misspelled { (asked : Asked) (fault : JobFault) →
+        let call = call_of (I.state inputs.old) (I.state inputs.new) (K.state sink.old) (K.state sink.new) in
+        IsCalm (asked_of (map string_bytes words.now)) asked call → Tells call asked (Status.Job fault) →
+        UnlessMemory (Status.Job fault) result }
+
+    // A reply is written behind the end of the job's input.
+    ensures over { asked_of (map string_bytes words.now) ≡ Ok Asked.Child → result ≡ Status.Done
+        → IsOver (I.state inputs.new).rest }
 {
     answer(alloc, words, inputs, sink)
 }
@@ -64,6 +77,8 @@ fn answer<I: Inputs, K: Sink>(
     ensures outcome { let call = call_of (I.state inputs.old) (I.state inputs.new) (K.state sink.old) (K.state sink.new) in
         Outcome (I.picks inputs.old) (I.picks inputs.new) (asked_of (map string_bytes words.now)) call result }
     ensures keeps { Keeps (call_of (I.state inputs.old) (I.state inputs.new) (K.state sink.old) (K.state sink.new)) }
+    ensures over { asked_of (map string_bytes words.now) ≡ Ok Asked.Child → result ≡ Status.Done
+        → IsOver (I.state inputs.new).rest }
 {
     match read_words(alloc, words) {
         Ok(read) => perform(alloc, &read, inputs, sink),
@@ -78,19 +93,31 @@ fn perform<I: Inputs, K: Sink>(alloc: Global, words: &Words, inputs: &mut I, sin
     ensures answered { let call = call_of (I.state inputs.old) (I.state inputs.new) (K.state sink.old) (K.state sink.new) in
         Answered (I.picks inputs.old) (I.picks inputs.new) (asked_in words.now) call result }
     ensures keeps { Keeps (call_of (I.state inputs.old) (I.state inputs.new) (K.state sink.old) (K.state sink.new)) }
+    ensures over { asked_in words.now ≡ Asked.Child → result ≡ Status.Done → IsOver (I.state inputs.new).rest }
 {
-    let name = words.names[0].as_str();
     match words.command {
-        Command::Total => total(alloc, name, inputs, sink),
-        Command::Central => {
-            let setting = Setting::of(words);
-            match &words.topology {
-                Some(topology) => {
-                    central_routed(alloc, name, topology.as_str(), &setting, inputs, sink)
-                }
-                None => central_alone(alloc, name, &setting, inputs, sink),
-            }
+        Command::Total => total(alloc, words.names[0].as_str(), inputs, sink),
+        Command::Central => central(alloc, words, inputs, sink),
+        Command::Check => {
+            let (topology, tree) = (words.names[0].as_str(), words.names[1].as_str());
+            check_tree(alloc, topology, tree, inputs, sink)
         }
-        Command::Check => check_tree(alloc, name, words.names[1].as_str(), inputs, sink),
+        Command::Child => child(alloc, inputs, sink),
+    }
+}
+
+// The command `central`, with a topology where one is named.
+fn central<I: Inputs, K: Sink>(alloc: Global, words: &Words, inputs: &mut I, sink: &mut K) -> Status
+    requires range { IsInRange words.now }
+    requires command { words.now.command ≡ Command.Central }
+    ensures answered { let call = call_of (I.state inputs.old) (I.state inputs.new) (K.state sink.old) (K.state sink.new) in
+        Answered (I.picks inputs.old) (I.picks inputs.new) (asked_in words.now) call result }
+    ensures keeps { Keeps (call_of (I.state inputs.old) (I.state inputs.new) (K.state sink.old) (K.state sink.new)) }
+{
+    let trace = words.names[0].as_str();
+    let setting = Setting::of(words);
+    match &words.topology {
+        Some(topology) => central_routed(alloc, trace, topology.as_str(), &setting, inputs, sink),
+        None => central_alone(alloc, trace, &setting, inputs, sink),
     }
 }

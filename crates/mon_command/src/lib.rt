@@ -1,7 +1,7 @@
 //! The commands of univmon over any inputs and any sink.
 //!
 //! - `alone`: `run_alone`, the commands that start nobody
-//! - `total`: the command `total`; `central` and `check` stand in crates of their own
+//! - `total`: the command `total`; `central`, `check` and `child` stand in crates of their own
 //! - `statuses`: the number and the line of a status; `topology_line`, `certificate_line`: the lines of the faults of
 //!   a topology and of a certificate
 //!

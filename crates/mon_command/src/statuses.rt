@@ -1,9 +1,10 @@
 //! The number and the line of a status.
 ghost use Rattle.std.specs.Prelude.{◌≡◌, IfOk, string_bytes};
-ghost use Rattle.mon_command.specs.Status.{number_of, line_of, pcap_line, trace_line, usage_line};
+ghost use Rattle.mon_command.specs.Status.{number_of, line_of, job_line, pcap_line, trace_line, usage_line};
 
 use crate::certificate_line::certificate_text;
 use crate::topology_line::topology_text;
+use job_format::JobFault;
 use mon_call::{Input, Status};
 use mon_io::Memory;
 use mon_words::UsageFault;
@@ -23,6 +24,7 @@ pub fn status_number(status: &Status) -> u8
         Status::Trace(_) => 5,
         Status::SinkFault => 10,
         Status::Certificate(_) => 11,
+        Status::Job(_) => 12,
         Status::Memory => 13,
     }
 }
@@ -39,9 +41,11 @@ pub fn status_line(alloc: Global, status: &Status) -> Result<String, Memory>
         }
         Status::ReadFault(Input::Trace) => String::from_str(alloc, "univmon: cannot read trace"),
         Status::ReadFault(Input::Tree) => String::from_str(alloc, "univmon: cannot read tree"),
+        Status::ReadFault(Input::Job) => String::from_str(alloc, "univmon: cannot read job"),
         Status::Topology(fault) => topology_text(alloc, *fault),
         Status::Trace(fault) => trace_text(alloc, *fault),
         Status::Certificate(fault) => certificate_text(alloc, *fault),
+        Status::Job(fault) => job_text(alloc, *fault),
         Status::SinkFault => String::from_str(alloc, "univmon: cannot write"),
         Status::Memory => String::from_str(alloc, "univmon: out of memory"),
     };
@@ -76,6 +80,19 @@ fn trace_text(alloc: Global, fault: TraceFault) -> Result<String, AllocError>
         TraceFault::Weight { number } => {
             format!(in alloc; "univmon: trace: weight at record {number}")
         }
+    }
+}
+
+fn job_text(alloc: Global, fault: JobFault) -> Result<String, AllocError>
+    ensures { IfOk result (λ line. string_bytes line ≡ job_line fault) }
+{
+    match fault {
+        JobFault::Short => String::from_str(alloc, "univmon: job: short"),
+        JobFault::Magic => String::from_str(alloc, "univmon: job: magic"),
+        JobFault::Version => String::from_str(alloc, "univmon: job: version"),
+        JobFault::Shape => String::from_str(alloc, "univmon: job: shape"),
+        JobFault::Extra => String::from_str(alloc, "univmon: job: extra"),
+        JobFault::Memory => String::from_str(alloc, "univmon: out of memory"),
     }
 }
 

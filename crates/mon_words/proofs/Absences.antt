@@ -14,12 +14,12 @@ use Rattle.clap.specs.declared.parser.matches.ArgMatches.{ArgMatches}
 use Rattle.clap.specs.declared.parser.matches.MatchedArg.{MatchedArg}
 use Rattle.clap.proofs.CallerLemmas.{entry_by_id}
 use Rattle.clap.proofs.WalkLemmas.{first_value-rows}
-use Rattle.mon_words.specs.Apps.{app_for, check_app, name_ids, name_rule, total_app}
+use Rattle.mon_words.specs.Apps.{app_for, check_app, child_app, name_ids, name_rule, total_app}
 use Rattle.mon_words.specs.Needs.{IsFresh, IsStrict}
 use Rattle.mon_words.specs.Options.{id_of}
 use Rattle.mon_words.specs.Values.{IsBare, takes_options}
 use Rattle.mon_words.specs.declared.command.Command as words
-use Rattle.mon_words.specs.declared.command.Command.TheVariants.{Total, Central, Check}
+use Rattle.mon_words.specs.declared.command.Command.TheVariants.{Total, Central, Check, Child}
 use Rattle.mon_words.specs.declared.opt.Opt.{Opt}
 use Rattle.mon_words.proofs.Arguments.{differs}
 use Rattle.mon_words.specs.declared.opt.Opt.TheVariants.{Seed, Levels, Rows, Width, Heap, Weight, Epoch, Heavy}
@@ -85,12 +85,14 @@ fresh_by_names (arg ∷ args) (name ∷ names) id is others (suc k) d lt =
 -- the arguments of a command without options are its names alone
 fresh_in : (command : words.Command) (app : Command) (id : List ℕ) → takes_options command ≡ false
     → app_of app ≡ app_for command → Others id (name_ids command) → IsFresh id (args_of app)
-unfolding total_app check_app
+unfolding total_app check_app child_app
 fresh_in Total app id bare is others =
     fresh_by_names (args_of app) (name_ids Total) id (ap (λ (a : App). a.top.rules) is) others
 fresh_in Central app id bare is others = absurd (true≢false bare)
 fresh_in Check app id bare is others =
     fresh_by_names (args_of app) (name_ids Check) id (ap (λ (a : App). a.top.rules) is) others
+fresh_in Child app id bare is others =
+    fresh_by_names (args_of app) (name_ids Child) id (ap (λ (a : App). a.top.rules) is) others
 
 -- an id of an option is that of no name, and none of clap's own
 record IsApart (id : List ℕ) : Type 0 where
@@ -115,6 +117,7 @@ other_names : (command : words.Command) (id : List ℕ) → IsApart id → Other
 other_names Total id apart = (apart.trace, tt)
 other_names Central id apart = (apart.trace, tt)
 other_names Check id apart = (apart.topology, (apart.tree, tt))
+other_names Child id apart = tt
 
 no_text : (command : words.Command) (app : Command) (m : ArgMatches) (id : List ℕ) → takes_options command ≡ false
     → IsStrict app → IsParsedFrom app m → app_of app ≡ app_for command

@@ -12,11 +12,11 @@ use borrow.Author.Tests.{ne_eqb}
 use Rattle.clap.specs.Lexer.{long_of, short_of}
 use Rattle.clap.specs.Words.{Row, first_of}
 use Rattle.clap.proofs.OnLiterals.{clap_on_literals}
-use Rattle.mon_words.specs.Apps.{central_app, check_app, total_app, with_sketch_options, with_trace_options}
+use Rattle.mon_words.specs.Apps.{central_app, check_app, child_app, total_app, with_sketch_options, with_trace_options}
 use Rattle.mon_words.specs.Options.{id_of, takes}
 use Rattle.mon_words.specs.Plain.{IsPlain, plain_values}
 use Rattle.mon_words.specs.Values.{is_taken, read_of, rest_of, rows_in, words_of}
-use Rattle.mon_words.specs.declared.command.Command.TheVariants.{Total, Central, Check}
+use Rattle.mon_words.specs.declared.command.Command.TheVariants.{Total, Central, Check, Child}
 use Rattle.mon_words.proofs.Numerals.{own}
 use Rattle.mon_words.specs.declared.opt.Opt.TheVariants.{Seed, Levels, Rows, Width, Heap, Weight, Epoch, Heavy}
 
@@ -192,3 +192,7 @@ epoch_plain name seconds plain some fits =
     epoch_value name (decimal seconds) plain (plain_digits (decimal seconds) (digits_decimal own seconds small))
     (decimal_nonempty seconds small) (seconds_taken seconds some fits)
     ∙ ap (λ n. Ok (plain_values Central (name ∷ []) (Some n))) (digits_value-decimal own seconds small)
+
+pub child_plain : words_of (codes "child" ∷ []) ≡ Ok (plain_values Child [] None)
+unfolding is_taken rows_in clap_on_literals child_app
+child_plain = refl

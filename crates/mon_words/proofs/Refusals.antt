@@ -5,23 +5,25 @@ use Rattle.clap.specs.declared.error.Error.{Error}
 use Rattle.clap.specs.declared.error.kind.ErrorKind.{ErrorKind}
 use Rattle.clap.specs.declared.error.kind.ErrorKind.TheVariants as kinds
 use Rattle.clap.proofs.OnLiterals.{clap_on_literals}
-use Rattle.mon_words.specs.Apps.{app_for, central_app, check_app, total_app, with_sketch_options, with_trace_options}
+use Rattle.mon_words.specs.Apps.{app_for, central_app, check_app, child_app, total_app, with_sketch_options, with_trace_options}
 use Rattle.mon_words.specs.Values.{is_taken, rows_in}
 use Rattle.mon_words.specs.declared.command.Command.{Command}
-use Rattle.mon_words.specs.declared.command.Command.TheVariants.{Total, Central, Check}
+use Rattle.mon_words.specs.declared.command.Command.TheVariants.{Total, Central, Check, Child}
 
 -- clap's clauses on these commands are exact
 pub is_exact : (command : Command) → is_simple_and_free (app_for command) ≡ true
-unfolding clap_on_literals total_app central_app check_app with_sketch_options with_trace_options
+unfolding clap_on_literals total_app central_app check_app child_app with_sketch_options with_trace_options
 is_exact Total = refl
 is_exact Central = refl
 is_exact Check = refl
+is_exact Child = refl
 
 pub is_known : (command : Command) → is_simple (app_for command) ≡ true
-unfolding clap_on_literals total_app central_app check_app with_sketch_options with_trace_options
+unfolding clap_on_literals total_app central_app check_app child_app with_sketch_options with_trace_options
 is_known Total = refl
 is_known Central = refl
 is_known Check = refl
+is_known Child = refl
 
 pub taken : (command : Command) (words : List (List ℕ)) → fault_of (app_for command) words ≡ []
     → is_taken command words ≡ true

@@ -3,7 +3,7 @@ use Rattle.std.specs.Prelude.{true, List, [], ◌∷◌, Some, ℕ, codes}
 use Rattle.clap.specs.Words.{App, Rule, new_app, new_rule, with_rule}
 use Rattle.clap.specs.declared.builder.action.ArgAction.TheVariants.{Set}
 use Rattle.mon_words.specs.declared.command.Command.{Command}
-use Rattle.mon_words.specs.declared.command.Command.TheVariants.{Total, Central, Check}
+use Rattle.mon_words.specs.declared.command.Command.TheVariants.{Total, Central, Check, Child}
 
 -- a word that has to stand in its place
 abbrev pub name_rule : List ℕ → Rule
@@ -46,13 +46,19 @@ central_app = with_trace_options (with_sketch_options (with_name (codes "TRACE")
 unfoldable pub check_app : App
 check_app = with_name (codes "TREE") (with_name (codes "TOPOLOGY") (bare_app (codes "check")))
 
+-- `child` takes no word
+unfoldable pub child_app : App
+child_app = bare_app (codes "child")
+
 -- the ids of the names that a command takes, in order
 abbrev pub name_ids : Command → List (List ℕ)
 name_ids Total = codes "TRACE" ∷ []
 name_ids Central = codes "TRACE" ∷ []
 name_ids Check = codes "TOPOLOGY" ∷ codes "TREE" ∷ []
+name_ids Child = []
 
 abbrev pub app_for : Command → App
 app_for Total = total_app
 app_for Central = central_app
 app_for Check = check_app
+app_for Child = child_app

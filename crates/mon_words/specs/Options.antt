@@ -5,7 +5,7 @@ use Rattle.std.specs.Char.{is_ascii_digit}
 use Rattle.std.specs.Str.Parse.{digits_value}
 use Rattle.hash_family.specs.Limits.{is_rows, is_width}
 use Rattle.mon_words.specs.declared.command.Command.{Command}
-use Rattle.mon_words.specs.declared.command.Command.TheVariants.{Total, Central, Check}
+use Rattle.mon_words.specs.declared.command.Command.TheVariants.{Total, Central, Check, Child}
 use Rattle.mon_words.specs.declared.opt.Opt.{Opt}
 use Rattle.mon_words.specs.declared.opt.Opt.TheVariants.{Seed, Levels, Rows, Width, Heap, Weight, Epoch, Heavy}
 
@@ -33,12 +33,14 @@ abbrev pub least_heap : Command → ℕ
 least_heap Total = 1
 least_heap Central = 0
 least_heap Check = 1
+least_heap Child = 1
 
 -- the heap of a command where it is not given
 abbrev pub default_heap : Command → ℕ
 default_heap Total = 64
 default_heap Central = 0
 default_heap Check = 64
+default_heap Child = 64
 
 -- the numbers that an option of a command takes; a weight is a word
 abbrev pub is_in_range : Command → Opt → ℕ → Bool

@@ -8,7 +8,7 @@ use Rattle.hash_family.specs.Limits.{is_rows, is_width}
 use Rattle.mon_words.specs.Apps.{app_for, name_ids}
 use Rattle.mon_words.specs.Options.{default_heap, id_of, options, takes}
 use Rattle.mon_words.specs.declared.command.Command.{Command}
-use Rattle.mon_words.specs.declared.command.Command.TheVariants.{Total, Central, Check}
+use Rattle.mon_words.specs.declared.command.Command.TheVariants.{Total, Central, Check, Child}
 use Rattle.mon_words.specs.declared.opt.Opt.{Opt}
 use Rattle.mon_words.specs.declared.opt.Opt.TheVariants.{Seed, Levels, Rows, Width, Heap, Weight, Epoch, Heavy}
 use Rattle.mon_words.specs.declared.usage_fault.UsageFault.{UsageFault}
@@ -35,12 +35,14 @@ abbrev pub name_count : Command → ℕ
 name_count Total = 1
 name_count Central = 1
 name_count Check = 2
+name_count Child = 0
 
 -- whether a command takes options
 abbrev pub takes_options : Command → Bool
 takes_options Total = false
 takes_options Central = true
 takes_options Check = false
+takes_options Child = false
 
 -- the numbers are within their limits, where a heap of 0 keeps all live keys, and there are as many names as the
 -- command takes
@@ -72,6 +74,7 @@ command_of word =
     if bytes_eq word (codes "total") then Some Total
     else if bytes_eq word (codes "central") then Some Central
     else if bytes_eq word (codes "check") then Some Check
+    else if bytes_eq word (codes "child") then Some Child
     else None
 
 -- clap's definition of the command takes the words behind its name

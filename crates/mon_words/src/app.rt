@@ -2,7 +2,7 @@
 ghost use Rattle.std.specs.Prelude.{◌≡◌, ℕ, List, [], IfOk, codes, bytes_eq, true, false};
 ghost use Rattle.clap.specs.Built.{IsPlainArg, TakesValue};
 ghost use Rattle.clap.specs.Words.{app_of, args_of, rule_of};
-ghost use Rattle.mon_words.specs.Apps.{bare_app, central_app, check_app, name_rule, option_rule, total_app, with_name, with_option, with_sketch_options, with_trace_options};
+ghost use Rattle.mon_words.specs.Apps.{bare_app, central_app, check_app, child_app, name_rule, option_rule, total_app, with_name, with_option, with_sketch_options, with_trace_options};
 ghost use Rattle.mon_words.specs.Needs.{IsFresh, IsStrict, Needs};
 
 use clap::{Arg, ArgAction, Command};
@@ -41,6 +41,15 @@ pub(crate) fn check_app<'a>(alloc: Global) -> Result<Command<'a>, AllocError>
 {
     let app = with_name(alloc, bare_app(alloc, "check"), "TOPOLOGY")?;
     with_name(alloc, app, "TREE")
+}
+
+/// The words behind `child`: none.
+#[tactic(auto, unfolding(crate::specs::Apps::child_app))]
+pub(crate) fn child_app<'a>(alloc: Global) -> Result<Command<'a>, AllocError>
+    ensures app { IfOk result (λ app. app_of app ≡ child_app) }
+    ensures strict { IfOk result IsStrict }
+{
+    Ok(bare_app(alloc, "child"))
 }
 
 // With the options of a sketch.

@@ -12,6 +12,8 @@ pub enum Command {
     Central,
     /// `check`: checks a tree against a topology.
     Check,
+    /// `child`: reads a job, and writes its reply.
+    Child,
 }
 
 impl Command {
@@ -25,6 +27,8 @@ impl Command {
             Some(Command::Central)
         } else if word == "check" {
             Some(Command::Check)
+        } else if word == "child" {
+            Some(Command::Child)
         } else {
             None
         }
@@ -39,6 +43,7 @@ impl Command {
             Command::Total => 64,
             Command::Central => 0,
             Command::Check => 64,
+            Command::Child => 64,
         }
     }
 
@@ -47,7 +52,7 @@ impl Command {
         ensures number { result ≡ least_heap self }
     {
         match self {
-            Command::Total | Command::Check => 1,
+            Command::Total | Command::Check | Command::Child => 1,
             Command::Central => 0,
         }
     }

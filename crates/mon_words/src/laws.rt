@@ -2,9 +2,9 @@
 ghost use Rattle.std.specs.Prelude.{◌≡◌, ◌<◌, ◌≤◌, ◌^◌, ℕ, List, [], ◌∷◌, Some, None, Ok, codes, decimal};
 ghost use Rattle.mon_words.specs.Plain.{IsPlain, plain_values};
 ghost use Rattle.mon_words.specs.Values.{words_of};
-ghost use Rattle.mon_words.specs.declared.command.Command.TheVariants.{Total, Central, Check};
+ghost use Rattle.mon_words.specs.declared.command.Command.TheVariants.{Total, Central, Check, Child};
 
-/// `total NAME`, `central NAME`, `central NAME --epoch SECONDS` and `check NAME NAME`, with names that don't begin with
+/// `total NAME`, `central NAME`, `central NAME --epoch SECONDS`, `check NAME NAME` and `child`, with names that don't begin with
 /// a hyphen and seconds from 1 to 2^32 - 1, ask for that command with these names and seconds, and else the defaults.
 pub fn plain_words()
     ensures total { (name : List ℕ) → IsPlain name →
@@ -16,4 +16,5 @@ pub fn plain_words()
         ≡ Ok (plain_values Central (name ∷ []) (Some seconds)) }
     ensures check { (topology tree : List ℕ) → IsPlain topology → IsPlain tree →
         words_of (codes "check" ∷ topology ∷ tree ∷ []) ≡ Ok (plain_values Check (topology ∷ tree ∷ []) None) }
+    ensures child { words_of (codes "child" ∷ []) ≡ Ok (plain_values Child [] None) }
 {}

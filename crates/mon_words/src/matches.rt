@@ -7,7 +7,7 @@ ghost use Rattle.mon_words.specs.Needs.{IsStrict, NeedsEach};
 ghost use Rattle.mon_words.specs.Options.{has_number, id_of, is_in_range};
 ghost use Rattle.mon_words.specs.Values.{Explains, IsBare, IsNamed, is_refused, is_taken, number_or, rest_of, rows_in, takes_options};
 
-use crate::app::{central_app, check_app, total_app};
+use crate::app::{central_app, check_app, child_app, total_app};
 use crate::numeral::number;
 use crate::{Command, Opt, UsageFault, WordsFault};
 use clap::ArgMatches;
@@ -49,6 +49,7 @@ fn app_for<'a>(alloc: Global, command: Command) -> Result<clap::Command<'a>, All
         Command::Total => total_app(alloc),
         Command::Central => central_app(alloc),
         Command::Check => check_app(alloc),
+        Command::Child => child_app(alloc),
     }
 }
 

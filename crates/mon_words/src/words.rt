@@ -17,7 +17,7 @@ use std::marker::Model;
 #[derive(Debug, Drop)]
 pub struct Words {
     pub command: Command,
-    /// One name, of a trace; for `check` two, of a topology and of a tree.
+    /// One name, of a trace; for `check` two, of a topology and of a tree; for `child` none.
     pub names: Vec<String>,
     /// `--topology`, any text.
     pub topology: Option<String>,
@@ -148,6 +148,7 @@ fn names_in(
     let mut names = Vec::new(alloc);
     match command {
         Command::Total | Command::Central => add_name(alloc, matches, "TRACE", &mut names)?,
+        Command::Child => {}
         Command::Check => {
             add_name(alloc, matches, "TOPOLOGY", &mut names)?;
             add_name(alloc, matches, "TREE", &mut names)?;

@@ -13,3 +13,6 @@ returns-clause-refused g c = λ asked fault calm told. answers_told _ _ _ asked 
 
 pub returns-clause-uncertified : goal.returns-clause-uncertified
 returns-clause-uncertified g c = λ asked fault calm told. answers_told _ _ _ asked _ (statuses.Certificate fault) _ c.answer.ensures.outcome calm told
+
+pub returns-clause-misspelled : goal.returns-clause-misspelled
+returns-clause-misspelled g c = λ asked fault calm told. answers_told _ _ _ asked _ (statuses.Job fault) _ c.answer.ensures.outcome calm told

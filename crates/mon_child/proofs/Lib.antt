@@ -1,0 +1,2 @@
+mod Stub
+pub mod Told
