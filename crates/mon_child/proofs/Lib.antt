@@ -1,2 +1,1 @@
-mod Stub
 pub mod Told

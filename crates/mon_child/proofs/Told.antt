@@ -1,7 +1,7 @@
 -- Of a job that is told only one status is shown.
 use Rattle.std.proofs.Common.{◌≡◌, ℕ, List, Option, Some, IfSome, Result, Ok, Err, refl, sym, ap, subst}
 use Rattle.child_worker.specs.Child.{IsMisspelled, IsReplied}
-use Rattle.mon_child.proofs.Stub.{one_read}
+use Rattle.job_format.proofs.Reading.{one_read}
 use Rattle.job_format.specs.Job.{Job as AnyJob, SpellsJob}
 use Rattle.job_format.specs.Read.{BreaksJob, ReadsJob}
 use Rattle.job_format.specs.declared.fault.JobFault.{JobFault}

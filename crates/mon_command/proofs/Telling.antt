@@ -1,5 +1,5 @@
 -- Of what is told only one status is shown, and a call without a fault answers it.
-use Rattle.std.proofs.Common.{◌≡◌, ℕ, List, Option, Result, Ok, refl, ap, subst}
+use Rattle.std.proofs.Common.{◌≡◌, ℕ, List, Option, Result, Ok, codes, refl, ap, subst}
 use Rattle.mon_words.specs.declared.usage_fault.UsageFault.{UsageFault}
 use Rattle.pcap_reader.specs.Trace.{Record, Broken, IsTrace}
 use Rattle.pcap_reader.specs.declared.fault.PcapFault.{PcapFault}
