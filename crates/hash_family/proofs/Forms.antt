@@ -61,3 +61,24 @@ linear_form-hash {seed} {function} {row} words of =
     (λ i. coefficient seed function (i + 1) * slice_index words i) 11
     (λ i small. ap (λ (a : ℕ). a * slice_index words i) (of.each (i + 1) (omega arith))) in
     ap (λ (n : ℕ). n % prime) (omega (arith, first, rest))
+
+-- the form where the words are 0 that only long addresses have
+pub linear_form-short : (row words : List ℕ)
+    → slice_index words 2 ≡ 0 → slice_index words 3 ≡ 0 → slice_index words 4 ≡ 0
+    → slice_index words 6 ≡ 0 → slice_index words 7 ≡ 0 → slice_index words 8 ≡ 0
+    → linear_form row words
+    ≡ slice_index row 0 + slice_index row 1 * slice_index words 0 + slice_index row 2 * slice_index words 1
+    + slice_index row 6 * slice_index words 5 + slice_index row 10 * slice_index words 9
+    + slice_index row 11 * slice_index words 10
+unfolding linear_form
+linear_form-short row words a b c d e f =
+    let nothing : (n w : ℕ) → w ≡ 0 → n * w ≡ 0 = λ n w none. ap (λ (k : ℕ). n * k) none ∙ omega arith in
+    omega (
+      arith,
+      nothing (slice_index row 3) (slice_index words 2) a,
+      nothing (slice_index row 4) (slice_index words 3) b,
+      nothing (slice_index row 5) (slice_index words 4) c,
+      nothing (slice_index row 7) (slice_index words 6) d,
+      nothing (slice_index row 8) (slice_index words 7) e,
+      nothing (slice_index row 9) (slice_index words 8) f,
+    )

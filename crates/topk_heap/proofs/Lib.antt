@@ -4,3 +4,5 @@ pub mod Held
 pub mod Lists
 pub mod Order
 pub mod Scores
+pub mod Halves
+pub mod Refusals

@@ -1,5 +1,6 @@
 -- What clauses see of a table.
-use Rattle.std.specs.Prelude.{ℕ, ℤ, ◌<◌, ◌≤◌, List, [], length}
+use Rattle.std.specs.Prelude.{◌≡◌, ℕ, ℤ, ◌<◌, ◌≤◌, List, [], length}
+use Rattle.topk_heap.specs.Places.{RanksLast}
 use Rattle.topk_heap.specs.Ranking.{IsAscending, dropped_keys, with_score}
 use Rattle.topk_heap.specs.declared.entry.Entry.{Entry}
 
@@ -23,7 +24,8 @@ pub record IsTable (table : Table) : Type 0 where
   pub few : length table.entries ≤ table.size
   pub ascending : IsAscending table.entries
 
--- a table with room for one more entry than it may hold
-pub record IsTableInRoom (table : Table) (capacity : ℕ) : Type 0 where
+-- a table with room for one more entry than it may hold, and the place of the entry that ranks last, where it is full
+pub record IsTableInRoom (table : Table) (capacity place : ℕ) : Type 0 where
   pub whole : IsTable table
   pub room : table.size < capacity
+  pub last : length table.entries ≡ table.size → RanksLast table.entries place

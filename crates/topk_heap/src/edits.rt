@@ -1,6 +1,7 @@
 //! The two steps of an offer, on a list that ascends by key.
-ghost use Rattle.std.specs.Prelude.{◌≡◌, ◌↔◌, ◌+◌, ◌<◌, ◌≤◌, length, map, vec_len, vec_capacity, IsNone, IfOk};
+ghost use Rattle.std.specs.Prelude.{◌≡◌, ◌↔◌, ◌+◌, ◌<◌, ◌≤◌, true, [], ◌∷◌, length, map, vec_len, vec_capacity, IsNone, IfOk};
 ghost use Rattle.std.specs.Option.{option_to_list};
+ghost use Rattle.topk_heap.specs.Places.{RanksLast};
 ghost use Rattle.topk_heap.specs.Ranking.{best, dropped_keys, with_score, IsAscending};
 
 use crate::Entry;
@@ -40,6 +41,43 @@ pub(crate) fn drop_last_ranked(entries: &mut Vec<Entry>, size: usize) -> Option<
     }
     let place = last_ranked(entries);
     Some(entries.remove(place).key)
+}
+
+// Whether the key isn't held, the list is full, and the key with this score ranks behind all entries. The entry that
+// ranks last of a full list is at `last`.
+pub(crate) fn is_refused(
+    entries: &[Entry],
+    size: usize,
+    last: usize,
+    key: &FlowKey,
+    score: i64,
+) -> bool
+    requires some { 1 ≤ size }
+    requires ascending { IsAscending entries.now }
+    requires last { length entries.now ≡ size → RanksLast entries.now last }
+    ensures kept { result ≡ true → best size (with_score entries.now key.now score) ≡ entries.now }
+    ensures dropped { result ≡ true → dropped_keys size (with_score entries.now key.now score) ≡ key.now ∷ [] }
+    ensures many { result ≡ true → length (with_score entries.now key.now score) ≡ size + 1 }
+{
+    if entries.len() != size {
+        return false;
+    }
+    match place_of(entries, key) {
+        Ok(_) => false,
+        Err(_) => entries[last].ranks_before(&Entry { key: *key, score }),
+    }
+}
+
+// The place of the entry that ranks last, where the list is full.
+pub(crate) fn last_of_full(entries: &[Entry], size: usize) -> usize
+    requires { 1 ≤ size }
+    ensures last { length entries.now ≡ size → RanksLast entries.now result }
+{
+    if entries.len() == size {
+        last_ranked(entries)
+    } else {
+        0
+    }
 }
 
 // The keys in the order of their entries.

@@ -1,24 +1,29 @@
 //! Places in a list of entries.
 ghost use Rattle.std.specs.Prelude.{◌≡◌, ◌<◌, length};
 ghost use Rattle.topk_heap.specs.Places.{IsPlace, RanksLast};
+ghost use Rattle.topk_heap.specs.Ranking.{IsAscending};
 
 use crate::Entry;
 use flow_keys::FlowKey;
 use std::cmp::Ordering;
 
-// The place of the key as `Ok`, or as `Err` the place before which it would be put in. Entries
-// are passed from the front while their keys are lesser.
+// The place of the key as `Ok`, or as `Err` the place before which it would be put in. The range of places that are
+// left is halved at each step.
 pub(crate) fn place_of(entries: &[Entry], key: &FlowKey) -> Result<usize, usize>
+    requires { IsAscending entries.now }
     ensures place { IsPlace entries.now key.now result }
 {
-    for (place, entry) in entries.iter().enumerate() {
-        match entry.key.cmp(key) {
-            Ordering::Less => {}
-            Ordering::Equal => return Ok(place),
-            Ordering::Greater => return Err(place),
+    let mut low = 0;
+    let mut high = entries.len();
+    while low < high {
+        let middle = low + (high - low) / 2;
+        match entries[middle].key.cmp(key) {
+            Ordering::Less => low = middle + 1,
+            Ordering::Equal => return Ok(middle),
+            Ordering::Greater => high = middle,
         }
     }
-    Err(entries.len())
+    Err(low)
 }
 
 // The place of the entry that ranks before no other.

@@ -8,7 +8,7 @@ ghost use Rattle.topk_heap.specs.Ranking.{best, holds, with_score};
 ghost use Rattle.topk_heap.specs.Answer.{answer_of};
 ghost use Rattle.topk_heap.specs.Table.{drops, empty_table, IsTable};
 
-use crate::edits::{drop_last_ranked, keys_of, put};
+use crate::edits::{drop_last_ranked, is_refused, keys_of, last_of_full, put};
 use crate::{Entry, Offer};
 use flow_keys::FlowKey;
 use mon_io::Memory;
@@ -20,6 +20,8 @@ use std::marker::Model;
 pub struct TopK {
     size: usize,
     entries: Vec<Entry>,
+    // the place of the entry that ranks last, where the table is full
+    last: usize,
 }
 
 impl Model for TopK {
@@ -31,7 +33,7 @@ impl Model for TopK {
     ghost view = { λ top. record { size = top.size; entries = top.entries.items } };
 
     ghost invariant = { λ top.
-        IsTableInRoom (record { size = top.size; entries = top.entries.items }) (vec_capacity top.entries) };
+        IsTableInRoom (record { size = top.size; entries = top.entries.items }) (vec_capacity top.entries) top.last };
 }
 
 impl TopK {
@@ -44,7 +46,11 @@ impl TopK {
     {
         let size = usize::from(k);
         match Vec::with_capacity(alloc, size + 1) {
-            Ok(entries) => Ok(TopK { size, entries }),
+            Ok(entries) => Ok(TopK {
+                size,
+                entries,
+                last: 0,
+            }),
             Err(_) => Err(Memory),
         }
     }
@@ -64,8 +70,12 @@ impl TopK {
             → (result ≡ Offer.KeptDropping y) ↔ ((y ≢ key) × Contains (drops self.old key score) y) }
         ensures table { IsTable self.new }
     {
+        if is_refused(&self.entries, self.size, self.last, &key, score) {
+            return Offer::of(&key, Some(key));
+        }
         put(&mut self.entries, key, score);
         let dropped = drop_last_ranked(&mut self.entries, self.size);
+        self.last = last_of_full(&self.entries, self.size);
         Offer::of(&key, dropped)
     }
 

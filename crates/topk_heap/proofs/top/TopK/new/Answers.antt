@@ -17,6 +17,7 @@ invariant_of-result c = record {
     ascending = none_ascending _ c.in-Ok.ensures.items;
   };
   room = omega (arith, c.in-Ok.ensures.capacity);
+  last = λ full. absurd (omega (arith, full, ap length c.in-Ok.ensures.items));
 }
 
 pub returns-in-Ok-clause-table : goal.returns-in-Ok-clause-table

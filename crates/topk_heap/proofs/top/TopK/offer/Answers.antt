@@ -1,4 +1,4 @@
-use Rattle.std.proofs.Common.{length, rules, ap, arith, to_z-of_z, w64, FitsSigned}
+use Rattle.std.proofs.Common.{Some, length, rules, ap, arith, to_z-of_z, w64, FitsSigned}
 use Rattle.topk_heap.proofs.AnswerLemmas.{answer_dropping, answer_refused}
 use Rattle.topk_heap.proofs.Best.{IsAscending-best}
 use Rattle.topk_heap.proofs.Held.{length-with_score}
@@ -23,6 +23,7 @@ invariant_of-self c = record {
         (IsAscending-best _ _ (IsAscending-with_score _ _ _ c.self.invariant.whole.ascending));
   };
   room = omega (arith, c.drop_last_ranked-dropped.ensures.capacity, c.put.ensures.capacity, c.self.invariant.room);
+  last = rw c.deref-2.ensures.value at c.last_of_full-self-inside.ensures.last;
 }
 
 pub returns-clause-one_more : goal.returns-clause-one_more
@@ -32,13 +33,28 @@ pub returns-clause-refused : goal.returns-clause-refused
 returns-clause-refused c =
     let fits : FitsSigned w64 c.args.score = search rules in
     let dropped = rw (c.put.ensures.items, to_z-of_z fits) at c.drop_last_ranked-dropped.ensures.dropped in
-    rw (c.of.ensures.value, ← c.self.view_is, ← dropped) (answer_refused c.args.key c.drop_last_ranked-dropped.result)
+    rw (c.of-2.ensures.value, ← c.self.view_is, ← dropped) (answer_refused c.args.key c.drop_last_ranked-dropped.result)
 
 pub returns-clause-dropping : goal.returns-clause-dropping
 returns-clause-dropping c =
     let fits : FitsSigned w64 c.args.score = search rules in
     let dropped = rw (c.put.ensures.items, to_z-of_z fits) at c.drop_last_ranked-dropped.ensures.dropped in
-    rw (c.of.ensures.value, ← c.self.view_is, ← dropped) (answer_dropping c.args.key c.drop_last_ranked-dropped.result)
+    rw (c.of-2.ensures.value, ← c.self.view_is, ← dropped) (answer_dropping c.args.key c.drop_last_ranked-dropped.result)
 
 pub returns-clause-table : goal.returns-clause-table
 returns-clause-table c = (invariant_of-self c).whole
+
+pub returns-then-is_refused-clause-one_more : goal.returns-then-is_refused-clause-one_more
+returns-then-is_refused-clause-one_more c = rw (← c.self.view_is) (length-with_score _ _ _ c.self.invariant.whole.ascending)
+
+pub returns-then-is_refused-clause-refused : goal.returns-then-is_refused-clause-refused
+returns-then-is_refused-clause-refused c =
+    let fits : FitsSigned w64 c.args.score = search rules in
+    let dropped = rw (c.deref.ensures.value, to_z-of_z fits) at c.if-is_refused.ensures.dropped in
+    rw (c.of.ensures.value, ← c.self.view_is, dropped) (answer_refused c.args.key (Some c.args.key))
+
+pub returns-then-is_refused-clause-dropping : goal.returns-then-is_refused-clause-dropping
+returns-then-is_refused-clause-dropping c =
+    let fits : FitsSigned w64 c.args.score = search rules in
+    let dropped = rw (c.deref.ensures.value, to_z-of_z fits) at c.if-is_refused.ensures.dropped in
+    rw (c.of.ensures.value, ← c.self.view_is, dropped) (answer_dropping c.args.key (Some c.args.key))
