@@ -8,6 +8,10 @@ use Rattle.recursive_sum.specs.Select.{selection}
 use Rattle.recursive_sum.specs.Sum.{estimate_at, recursive_sum}
 use Rattle.recursive_sum.specs.declared.measure.G.TheVariants.{Abs}
 
+-- the most keys of a level
+abbrev pub key_limit : ℕ
+key_limit = 1048576
+
 -- the sum of the absolute changes: over the later counters less the earlier ones, and the keys of both
 abbrev pub change_total : ℕ → View → View → ℤ
 change_total seed before after = recursive_sum seed Abs (difference after before)

@@ -2,7 +2,7 @@
 ghost use Rattle.std.specs.Prelude.{◌≡◌, ◌≤◌, ◌<◌, ◌^◌, ◌++◌, ℤ, All, IfOk, string_bytes};
 ghost use Rattle.count_sketch.specs.Counters.{AllUpTo};
 ghost use Rattle.sketch_merge.specs.Merged.{HaveUpTo};
-ghost use Rattle.change_report.specs.Change.{change_line, change_lines, changed_line, changed_lines};
+ghost use Rattle.change_report.specs.Change.{change_line, change_lines, changed_line, changed_lines, key_limit};
 
 use crate::changes::change;
 use flow_keys::{FlowKey, key_text};
@@ -25,8 +25,8 @@ pub fn change_text(
     requires setting { after.now.setting ≡ before.now.setting }
     requires small { All (AllUpTo (2 ^ 44)) after.now.counters }
     requires before_small { All (AllUpTo (2 ^ 44)) before.now.counters }
-    requires few { HaveUpTo 1048576 after.now.keys }
-    requires before_few { HaveUpTo 1048576 before.now.keys }
+    requires few { HaveUpTo key_limit after.now.keys }
+    requires before_few { HaveUpTo key_limit before.now.keys }
     requires per_mille { per_mille ≤ 1000 }
     ensures text { IfOk result (λ text.
         string_bytes text ≡ change_lines family.now epoch before.now after.now per_mille) }

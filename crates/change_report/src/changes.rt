@@ -4,7 +4,7 @@ ghost use Rattle.count_sketch.specs.Counters.{AllUpTo};
 ghost use Rattle.sketch_merge.specs.Merged.{HaveUpTo};
 ghost use Rattle.recursive_sum.specs.Select.{HaveOwnKeys};
 ghost use Rattle.recursive_sum.specs.Sum.{estimate_at};
-ghost use Rattle.change_report.specs.Change.{change_total, changed_keys, estimate_pairs};
+ghost use Rattle.change_report.specs.Change.{change_total, changed_keys, estimate_pairs, key_limit};
 
 use flow_keys::FlowKey;
 use hash_family::Family;
@@ -27,8 +27,8 @@ pub fn change(
     requires setting { after.now.setting ≡ before.now.setting }
     requires small { All (AllUpTo (2 ^ 44)) after.now.counters }
     requires before_small { All (AllUpTo (2 ^ 44)) before.now.counters }
-    requires few { HaveUpTo 1048576 after.now.keys }
-    requires before_few { HaveUpTo 1048576 before.now.keys }
+    requires few { HaveUpTo key_limit after.now.keys }
+    requires before_few { HaveUpTo key_limit before.now.keys }
     requires per_mille { per_mille ≤ 1000 }
     ensures total { IfOk result (λ change. change.0 ≡ change_total family.now before.now after.now) }
     ensures keys { IfOk result (λ change. change.1.items ≡ changed_keys family.now per_mille before.now after.now) }

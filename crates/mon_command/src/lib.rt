@@ -3,7 +3,7 @@
 //! - `alone`: `run_alone`, the commands that start nobody
 //! - `total`: the command `total`; `central`, `check` and `child` stand in crates of their own
 //! - `statuses`: the number and the line of a status; `topology_line`, `certificate_line`: the lines of the faults of
-//!   a topology and of a certificate
+//!   a topology and of a certificate; `laws`: what the eight digits of a magic number are
 //!
 //! `specs/Outcome.antt` says how a call is answered: by what its words ask for, each status with its cause, and which
 //! inputs were picked. `specs/Status.antt` is the table of numbers and lines.
@@ -11,11 +11,13 @@
 
 mod alone;
 mod certificate_line;
+mod laws;
 mod statuses;
 mod topology_line;
 mod total;
 
 pub use alone::run_alone;
+pub use laws::digits_of_a_magic_number;
 pub use mon_call::{Input, Status};
 pub use mon_words::{Opt, UsageFault};
 pub use routed_trace::TraceFault;
