@@ -1,4 +1,8 @@
 pub mod Fields
+mod Frames
+mod Heads
 pub mod Reading
 pub mod Says
+mod Settings
 pub mod Spelled
+mod Walks
