@@ -4,5 +4,6 @@ mod Heads
 pub mod Reading
 pub mod Says
 mod Settings
+mod Solves
 pub mod Spelled
 mod Walks
