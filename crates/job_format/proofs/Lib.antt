@@ -1,6 +1,7 @@
 pub mod Fields
 mod FrameFronts
 mod Frames
+mod Framing
 pub mod Fronts
 mod HeadFronts
 mod Heads
@@ -11,4 +12,6 @@ mod Settings
 mod SolveFronts
 mod Solves
 pub mod Spelled
+pub mod Spellings
+mod Vectors
 mod Walks

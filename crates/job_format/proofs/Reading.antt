@@ -100,7 +100,7 @@ pub short_of : (place : Place) (bytes part : List ℕ) → reached job_format (A
 short_of place bytes part is inside =
     record { place = place; part = part; ends = ends_of place bytes part is; inside = inside }
 
-end_size : (place : Place) → is_end place ≡ true → place_size place ≡ 1
+pub end_size : (place : Place) → is_end place ≡ true → place_size place ≡ 1
 end_size (places.Head step h) end = absurd (cc)
 end_size (places.Count h tally) end = absurd (cc)
 end_size (places.Key h tally left) end = absurd (cc)

@@ -166,7 +166,7 @@ needs_spell number nodes count front says =
     }
 
 -- bytes that lead to an end spell a job
-end_spells : (place : Place) (bytes : List ℕ) → is_end place ≡ true → Says place bytes
+pub end_spells : (place : Place) (bytes : List ℕ) → is_end place ≡ true → Says place bytes
     → (job : Job) × SpellsJob job bytes
 end_spells (Head step h) bytes end says = absurd (cc)
 end_spells (Count h tally) bytes end says = absurd (cc)
