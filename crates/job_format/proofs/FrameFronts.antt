@@ -4,14 +4,14 @@ use Rattle.std.specs.List.{flat_map, AllByRecursion}
 use Rattle.std.proofs.lemmas.Bool.{and_parts, cond_both, eqb-true, leb-true, ltb-true}
 use Rattle.std.proofs.lemmas.Bool.Decides.{nat_tests}
 use Rattle.std.proofs.lemmas.Grind.{flat_map-append}
-use Rattle.std.proofs.lemmas.List.Elements.{All-append, All-push}
-use Rattle.std.proofs.lemmas.List.Sums.{sum_by-append, sum_by_push}
+use Rattle.std.proofs.lemmas.List.Elements.{All-push}
+use Rattle.std.proofs.lemmas.List.Sums.{sum_by_push}
 use Rattle.byteorder.specs.Endian.{little_bytes, little_number}
 use Rattle.byte_format.specs.Keys.{key_bytes, key_size, key_words}
 use Rattle.byte_format.proofs.Keys.{key_back, words_small}
 use Rattle.byte_format.proofs.Numbers.{bytes_2, bytes_4, fits_4}
-use Rattle.flow_keys.specs.Key.{IsKey, is_valid}
-use Rattle.job_format.specs.Job.{AreFrames, AreFull, IsFrame, IsFull, IsItem, frame_bytes, frame_limit, item_bytes, item_limit, replay_head, weight_limit, weight_of}
+use Rattle.flow_keys.specs.Key.{is_valid}
+use Rattle.job_format.specs.Job.{AreFull, IsFrame, IsFull, IsItem, frame_bytes, frame_limit, item_bytes, item_limit, replay_head, weight_limit, weight_of}
 use Rattle.job_format.specs.Places.{behind_item, if_right, judge_count, judge_key, judge_weight, may_follow, with_frame, with_weight}
 use Rattle.job_format.specs.Read.{setting_in}
 use Rattle.job_format.specs.declared.fault.JobFault.{JobFault}
@@ -156,11 +156,11 @@ count_keeps h tally t front field small says size ok =
     let begun : Place = Key h (with_frame tally count) count in
     let follow : Result Place JobFault = if_right (may_follow tally count) faults.Shape begun in
     let cases : (test : Bool) → (test ≡ true → count ≡ 0) → (test ≡ false → 1 ≤ count)
-        → cond test (Ok (ReplayEnd h tally)) follow ≡ Ok t → so t =
+    → cond test (Ok (ReplayEnd h tally)) follow ≡ Ok t → so t =
     λ test none some. elim test as (λ v. (v ≡ true → count ≡ 0) → (v ≡ false → 1 ≤ count) → cond v (Ok (ReplayEnd h tally)) follow ≡ Ok t → so t) [
       | true ↦ λ none some ok. led so (ReplayEnd h tally) t (closed_keeps h tally front field small says size (none refl)) ok
       | false ↦ λ none some ok. right_led so (may_follow tally count) faults.Shape begun t
-      (λ is. (some refl, begun_keeps h tally count front field says (sym (bytes_2 field size small)) (follows_of tally count is))) ok
+          (λ is. (some refl, begun_keeps h tally count front field says (sym (bytes_2 field size small)) (follows_of tally count is))) ok
     ] none some in
     cases (count == 0) (λ is. eqb-true count 0 is) (λ is. grind (arith, nat_tests)) ok
 
@@ -182,7 +182,7 @@ key_keeps h tally left t front field small (some, says) size ok =
 -- an item behind others of a frame
 item_push : (frames : List ℕ) (begun : List Item) (item : Item) (count more : ℕ) → count ≡ more
     → (frames ++ (little_bytes 2 count ++ flat_map item_bytes begun)) ++ item_bytes item
-      ≡ frames ++ (little_bytes 2 more ++ flat_map item_bytes (begun ++ item ∷ []))
+    ≡ frames ++ (little_bytes 2 more ++ flat_map item_bytes (begun ++ item ∷ []))
 item_push frames begun item count more same =
     append_assoc frames (little_bytes 2 count ++ flat_map item_bytes begun) (item_bytes item)
     ∙ ap (λ (n : ℕ). frames ++ (little_bytes 2 n ++ (flat_map item_bytes begun ++ item_bytes item))) same
@@ -210,28 +210,30 @@ item_keeps h tally left item front field says fits is light =
     let parts : front ++ field ≡ says.short ++ (key_bytes item.key ++ field) =
     joined says.parts refl ∙ append_assoc says.short (key_bytes item.key) field in
     let same : (items.before ++ items.begun) ++ item ∷ [] ≡ items.before ++ (items.begun ++ item ∷ []) =
-    append_assoc items.before items.begun (item ∷ []) in
-    (record {
-      frames = items.frames;
-      before = items.before;
-      begun = items.begun ++ item ∷ [];
-      all = items.all;
-      full = items.full;
-      within =
-          subst (λ (l : List Item). AreItems l (with_weight tally item.weight)) same
-          (items_push (items.before ++ items.begun) item tally items.within (record { key = says.is_key; weight = fits }) light);
-      size = omega (arith, items.size, says.some_left, push);
-      count = omega (arith, items.count, says.some_left, push);
-      head =
-          subst
-          (λ (l : List ℕ). SaysReplay h l
-          (flat_map frame_bytes items.frames
-          ++ (little_bytes 2 (length (items.begun ++ item ∷ []) + (left - 1)) ++ flat_map item_bytes (items.begun ++ item ∷ []))))
-          (sym parts)
-          (head_more items.head (key_bytes item.key ++ field) (item_bytes item) _
-          (ap (λ (l : List ℕ). key_bytes item.key ++ l) is)
-          (item_push (flat_map frame_bytes items.frames) items.begun item _ _ (omega (arith, says.some_left, push))));
-    }, omega (arith, push))
+    append_assoc items.before items.begun (item ∷ []) in (
+      record {
+        frames = items.frames;
+        before = items.before;
+        begun = items.begun ++ item ∷ [];
+        all = items.all;
+        full = items.full;
+        within =
+            subst (λ (l : List Item). AreItems l (with_weight tally item.weight)) same
+            (items_push (items.before ++ items.begun) item tally items.within (record { key = says.is_key; weight = fits }) light);
+        size = omega (arith, items.size, says.some_left, push);
+        count = omega (arith, items.count, says.some_left, push);
+        head =
+            subst
+            (λ (l : List ℕ). SaysReplay h l
+            (flat_map frame_bytes items.frames
+            ++ (little_bytes 2 (length (items.begun ++ item ∷ []) + (left - 1)) ++ flat_map item_bytes (items.begun ++ item ∷ []))))
+            (sym parts)
+            (head_more items.head (key_bytes item.key ++ field) (item_bytes item) _
+            (ap (λ (l : List ℕ). key_bytes item.key ++ l) is)
+            (item_push (flat_map frame_bytes items.frames) items.begun item _ _ (omega (arith, says.some_left, push))));
+      },
+      omega (arith, push),
+    )
 
 -- behind an item
 behind_keeps : (h : HeadNumbers) (tally : Tally) (left : ℕ) (front : List ℕ) → 1 ≤ left

@@ -1,12 +1,12 @@
 -- What the items and frames of a replay job lead to.
-use Rattle.std.proofs.Common.{◌≡◌, ◌<◌, ◌≤◌, ℕ, suc, ◌+◌, ◌-◌, ◌%◌, ◌^◌, ◌&&◌, nat_le, nat_lt, nat_eq, Bool, true, false, cond, if◌then◌else◌, ◌==◌, Result, List, [], ◌∷◌, ◌++◌, length, All, Ok, refl, sym, ◌∙◌, ap, arith, length-append}
+use Rattle.std.proofs.Common.{◌≡◌, ◌<◌, ◌≤◌, ℕ, suc, ◌+◌, ◌-◌, ◌%◌, ◌^◌, nat_le, Bool, true, cond, if◌then◌else◌, ◌==◌, Result, List, [], ◌∷◌, ◌++◌, length, All, Ok, refl, ◌∙◌, ap, arith, length-append}
 use Rattle.std.specs.List.{flat_map, AllByRecursion}
 use Rattle.std.proofs.lemmas.Bool.{le-leb, lt-leb, ne_eqb}
 use Rattle.std.proofs.lemmas.Bool.Decides.{nat_tests}
 use Rattle.std.proofs.lemmas.List.Elements.{recursion_from_All}
 use Rattle.std.proofs.lemmas.List.Sums.{sum_by-append, sum_by-cons}
-use Rattle.byteorder.specs.Endian.{little_bytes, little_number}
-use Rattle.byte_format.specs.Keys.{key_bytes, key_words}
+use Rattle.byteorder.specs.Endian.{little_bytes}
+use Rattle.byte_format.specs.Keys.{key_bytes}
 use Rattle.byte_format.proofs.Keys.{key_length, key_read}
 use Rattle.byte_format.proofs.Lists.{all_left, all_right}
 use Rattle.byte_format.proofs.Numbers.{number_2, number_4}
@@ -40,7 +40,7 @@ key_walks h tally left key is =
 weight_walks : (h : HeadNumbers) (tally : Tally) (left : ℕ) (key : List ℕ) (weight : ℕ) → weight < 2 ^ 32
     → tally.weight + weight ≤ weight_limit
     → Walks (Weight h tally left key) (little_bytes 4 weight) (behind_item h (with_weight tally weight) left)
-      (record { key = key; weight = weight } ∷ []) [] []
+    (record { key = key; weight = weight } ∷ []) [] []
 unfolding judge_place item_gives site_gives need_gives
 weight_walks h tally left key weight fits light =
     giving
@@ -68,7 +68,7 @@ weight_cons item items = sum_by-cons (λ i. i.weight) item items
 items_walk : (h : HeadNumbers) (items : List Item) (item : Item) (tally : Tally) (weight : ℕ)
     → AllByRecursion IsItem (item ∷ items) → tally.weight + weight_of (item ∷ items) ≡ weight → weight ≤ weight_limit
     → Walks (Key h tally (length (item ∷ items))) (flat_map item_bytes (item ∷ items)) (Count h (weighed tally weight))
-      (item ∷ items) [] []
+    (item ∷ items) [] []
 items_walk h [] item tally weight (is, none) sum light =
     ending (chain (item_walks h tally 1 item is (omega (arith, sum, light))) (stays _))
     (ap (λ (n : ℕ). Count h (weighed tally n)) (omega (arith, sum)))
@@ -111,7 +111,7 @@ frame_walks : (h : HeadNumbers) (tally : Tally) (frame : List Item) (weight : �
     → AllByRecursion IsItem frame → tally.items % frame_limit ≡ 0 → tally.items < item_limit
     → tally.weight + weight_of frame ≡ weight → weight ≤ weight_limit
     → Walks (Count h tally) (frame_bytes frame)
-      (Count h (record { items = tally.items + length frame; weight = weight })) frame [] []
+    (Count h (record { items = tally.items + length frame; weight = weight })) frame [] []
 frame_walks h tally [] weight is each full room sum light = absurd (omega (arith, is))
 frame_walks h tally (item ∷ items) weight is each full room sum light =
     let count : ℕ = length (item ∷ items) in
@@ -137,7 +137,7 @@ pub frames_walk : (h : HeadNumbers) (frames : List (List Item)) (tally : Tally) 
     → tally.items + length (all_of frames) ≡ count → count ≤ item_limit
     → tally.weight + weight_of (all_of frames) ≡ weight → weight ≤ weight_limit
     → Walks (Count h tally) (flat_map frame_bytes frames) (Count h (record { items = count; weight = weight }))
-      (all_of frames) [] []
+    (all_of frames) [] []
 frames_walk h [] tally count weight are full each even counted few weighs light =
     ending (stays _) (same_tally h _ _ _ _ (omega (arith, counted)) (omega (arith, weighs)))
 frames_walk h (frame ∷ []) tally count weight (is, none) full each even counted few weighs light =

@@ -1,6 +1,6 @@
 -- How items are cut into frames: in one way.
-use Rattle.std.proofs.Common.{◌≡◌, ◌≤◌, ◌<◌, ℕ, zero, suc, ◌+◌, List, [], ◌∷◌, ◌++◌, length, take, drop, refl, sym, ◌∙◌, ap, subst, arith, append-nil, length-append, inl, inr}
-use Rattle.std.specs.List.{flat_map, AllByRecursion}
+use Rattle.std.proofs.Common.{◌≡◌, ◌≤◌, ℕ, zero, suc, List, [], ◌∷◌, ◌++◌, length, take, drop, refl, sym, ◌∙◌, ap, arith, append-nil, length-append, inl, inr}
+use Rattle.std.specs.List.{AllByRecursion}
 use Rattle.std.proofs.lemmas.Bool.{cases_lt}
 use Rattle.std.proofs.lemmas.List.{length-drop, length-take-le, take-append-drop}
 use Rattle.job_format.specs.Job.{AreFrames, AreFull, IsFrame, frame_limit}
@@ -22,18 +22,22 @@ cut (suc most) (item ∷ items) few = elim (cases_lt frame_limit (length (item �
       let front : List Item = take frame_limit whole in
       let back : List Item = drop frame_limit whole in
       let size : length front ≡ frame_limit = length-take-le frame_limit whole (omega (arith, more)) in
-      let rest : (frames : List (List Item)) × AreFrames frames back = cut most back (omega (arith, few, length-drop frame_limit whole)) in
-      (front ∷ rest.0, record {
-        all = ap (λ (l : List Item). front ++ l) rest.1.all ∙ take-append-drop frame_limit whole;
-        each = ((omega (arith, size), omega (arith, size)), rest.1.each);
-        full = full_front front rest.0 size rest.1.full;
-      })
-  | inr few ↦
-      ((item ∷ items) ∷ [], record {
-        all = append-nil (item ∷ items);
-        each = ((omega arith, few), tt);
-        full = tt;
-      })
+      let rest : (frames : List (List Item)) × AreFrames frames back = cut most back (omega (arith, few, length-drop frame_limit whole)) in (
+        front ∷ rest.0,
+        record {
+          all = ap (λ (l : List Item). front ++ l) rest.1.all ∙ take-append-drop frame_limit whole;
+          each = ((omega (arith, size), omega (arith, size)), rest.1.each);
+          full = full_front front rest.0 size rest.1.full;
+        },
+      )
+  | inr few ↦ (
+    (item ∷ items) ∷ [],
+    record {
+      all = append-nil (item ∷ items);
+      each = ((omega arith, few), tt);
+      full = tt;
+    },
+  )
 ]
 
 -- items have frames

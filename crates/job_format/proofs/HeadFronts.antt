@@ -1,13 +1,12 @@
 -- What the fields of a head keep.
-use Rattle.std.proofs.Common.{◌≡◌, ◌≤◌, ◌<◌, ℕ, zero, suc, ◌^◌, ◌&&◌, ◌==◌, nat_le, Bool, true, List, [], ◌∷◌, ◌++◌, length, slice_index, All, Result, Ok, refl, sym, ◌∙◌, ap, subst, arith}
+use Rattle.std.proofs.Common.{◌≡◌, ◌≤◌, ◌<◌, ℕ, zero, suc, ◌&&◌, ◌==◌, nat_le, List, [], ◌∷◌, ◌++◌, length, slice_index, All, Ok, refl, sym, arith}
 use Rattle.std.proofs.lemmas.Bool.{eqb-true, leb-true}
 use Rattle.std.proofs.lemmas.List.Elements.{All-nil}
-use Rattle.byteorder.specs.Endian.{little_bytes, little_number}
+use Rattle.byteorder.specs.Endian.{little_number}
 use Rattle.byte_format.proofs.Numbers.{bytes_2, bytes_4, bytes_8, fits_4, fits_8}
 use Rattle.hash_family.specs.Limits.{is_rows, is_width}
 use Rattle.job_format.specs.Job.{IsItem, front_bytes}
-use Rattle.job_format.specs.Places.{behind_number, head_size, if_right, is_magic, judge_head, kind_at}
-use Rattle.job_format.specs.declared.fault.JobFault.{JobFault}
+use Rattle.job_format.specs.Places.{behind_number, head_size, is_magic, judge_head, kind_at}
 use Rattle.job_format.specs.declared.fault.JobFault.TheVariants as faults
 use Rattle.job_format.specs.declared.place.HeadNumbers.{HeadNumbers}
 use Rattle.job_format.specs.declared.place.HeadStep.{HeadStep}

@@ -1,5 +1,5 @@
 -- What the heads of jobs lead to.
-use Rattle.std.proofs.Common.{◌≡◌, ◌<◌, ℕ, ◌^◌, ◌&&◌, nat_le, Bool, true, List, [], ◌∷◌, ◌++◌, Ok, refl, ◌∙◌, ap}
+use Rattle.std.proofs.Common.{◌≡◌, ◌<◌, ℕ, ◌^◌, ◌&&◌, nat_le, Bool, true, [], ◌∷◌, ◌++◌, Ok, refl, ◌∙◌, ap}
 use Rattle.byteorder.specs.Endian.{little_bytes, little_number}
 use Rattle.byte_format.proofs.Numbers.{number_2, number_4, number_8}
 use Rattle.hash_family.specs.Limits.{is_rows, is_width}

@@ -1,10 +1,10 @@
 -- What bytes are read as.
-use Rattle.std.proofs.Common.{◌≡◌, ◌<◌, ◌≤◌, ℕ, ◌==◌, Bool, false, true, cond, List, [], ◌∷◌, length, Option, Some, None, Result, Ok, Err, refl, sym, ◌∙◌, ap, subst, arith}
+use Rattle.std.proofs.Common.{◌≡◌, ◌<◌, ℕ, ◌==◌, Bool, false, true, cond, List, [], ◌∷◌, length, Option, Some, None, Result, Ok, Err, refl, sym, ◌∙◌, ap, subst, arith}
 use Rattle.byteorder.specs.Endian.{little_number}
 use Rattle.byte_format.specs.Format.{At, Breaks, Broken, EndsInside, Reached, reached}
 use Rattle.byte_format.proofs.Formats.{Leads, breaks-reached, ends-reached, leads}
-use Rattle.job_format.specs.Job.{Job, Replay, Solve as SolveIt, SpellsJob}
-use Rattle.job_format.specs.Places.{if_right, job_format, job_start, judge_count, judge_head, judge_place, judge_solve, place_size}
+use Rattle.job_format.specs.Job.{Job, SpellsJob}
+use Rattle.job_format.specs.Places.{if_right, job_format, job_start, judge_head, judge_place, judge_solve, place_size}
 use Rattle.job_format.specs.Read.{BreaksJob, IsShort, IsWhole, ReadsJob, is_end}
 use Rattle.job_format.specs.declared.fault.JobFault.{JobFault}
 use Rattle.job_format.specs.declared.fault.JobFault.TheVariants.{Short, Magic, Version, Shape, Extra, Memory}

@@ -6,11 +6,10 @@ use Rattle.bound_certificate.specs.declared.site.Site.{Site}
 use Rattle.byteorder.specs.Endian.{little_bytes}
 use Rattle.byte_format.specs.Format.{At, reached}
 use Rattle.byte_format.specs.Keys.{key_bytes}
-use Rattle.byte_format.proofs.Formats.{KeepsOf, reached_says_of}
-use Rattle.job_format.specs.Job.{Job, Replay, Solve as SolveIt, ReplayJob, SolveJob, SpellsJob, SpellsReplay, SpellsSolve, frame_bytes, need_bytes, replay_head, site_bytes, solve_head}
+use Rattle.byte_format.proofs.Formats.{reached_says_of}
+use Rattle.job_format.specs.Job.{Job, Replay, Solve as SolveIt, SpellsJob, SpellsReplay, SpellsSolve, frame_bytes, need_bytes, replay_head, site_bytes, solve_head}
 use Rattle.job_format.specs.Places.{job_format, job_start, judge_place, place_size}
 use Rattle.job_format.specs.Read.{IsWhole, is_end, setting_in}
-use Rattle.job_format.specs.declared.item.Item.{Item}
 use Rattle.job_format.specs.declared.place.HeadNumbers.{HeadNumbers}
 use Rattle.job_format.specs.declared.place.Place.{Place}
 use Rattle.job_format.specs.declared.place.Place.TheVariants.{Head, Count, Key, Weight, ReplayEnd, Solve, SolveEnd}
@@ -20,13 +19,12 @@ use Rattle.job_format.specs.declared.place.SolveStep.TheVariants as solves
 use Rattle.job_format.specs.declared.place.Tally.{Tally}
 use Rattle.job_format.proofs.Fields.{job_takes}
 use Rattle.job_format.proofs.FrameFronts.{count_keeps, key_keeps, weight_keeps}
-use Rattle.job_format.proofs.Fronts.{Says, SaysClosed, SaysLoad, SaysNeeds, SaysReplay, SaysSites, SaysSolve, SaysStep, SaysVia}
+use Rattle.job_format.proofs.Fronts.{Says, SaysClosed, SaysLoad, SaysNeeds, SaysReplay, SaysSolve, SaysStep}
 use Rattle.job_format.proofs.HeadFronts.{head_keeps}
 use Rattle.job_format.proofs.Judged.{joined}
 use Rattle.job_format.proofs.Reading.{whole_end, whole_one}
 use Rattle.job_format.proofs.SolveFronts.{solve_keeps}
 use Rattle.job_format.proofs.Spelled.{spelled_on}
-
 pub use Rattle.job_format.proofs.Fronts.{Says}
 
 -- the head that a place knows stands at the front of the bytes before it
@@ -131,10 +129,10 @@ closed_spells h tally front says = record {
 -- a whole problem is spelled
 needs_spell : (number nodes count : ℕ) (front : List ℕ) (says : SaysNeeds number nodes count 0 front)
     → SpellsSolve (record {
-        number = number;
-        nodes = nodes;
-        problem = record { sites = says.sites.sites; needs = says.needs };
-      }) front
+      number = number;
+      nodes = nodes;
+      problem = record { sites = says.sites.sites; needs = says.needs };
+    }) front
 needs_spell number nodes count front says =
     let sites : List Site = says.sites.sites in
     let size : count ≡ length sites = omega (arith, says.sites.size) in

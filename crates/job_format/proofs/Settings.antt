@@ -1,6 +1,6 @@
 -- The limits of a sketch's numbers, one by one.
 use Rattle.std.proofs.Common.{◌≡◌, ◌<◌, ℕ, ◌^◌, ◌&&◌, nat_le, true, arith}
-use Rattle.std.proofs.lemmas.Bool.{and_from, and_parts, eqb-true, leb-true, or_cases}
+use Rattle.std.proofs.lemmas.Bool.{and_from, and_parts}
 use Rattle.std.proofs.lemmas.Bool.Decides.{nat_tests}
 use Rattle.hash_family.specs.Limits.{are_within, is_rows, is_width}
 use Rattle.hash_family.specs.Setting.{Setting}

@@ -1,5 +1,5 @@
 -- What the fields of a solve job behind its head keep.
-use Rattle.std.proofs.Common.{◌≡◌, ◌≤◌, ◌<◌, ◌≢◌, ℕ, ◌+◌, ◌-◌, ◌^◌, ◌&&◌, ◌==◌, not, nat_le, nat_lt, Bool, true, false, cond, List, [], ◌∷◌, ◌++◌, length, slice_index, take, drop, get_or, All, Result, Ok, refl, sym, ◌∙◌, ap, subst, arith, append_assoc, append-nil, length-append}
+use Rattle.std.proofs.Common.{◌≡◌, ◌≤◌, ◌<◌, ◌≢◌, ℕ, ◌+◌, ◌-◌, ◌&&◌, ◌==◌, not, nat_le, nat_lt, Bool, true, false, List, [], ◌∷◌, ◌++◌, length, slice_index, drop, All, Ok, refl, sym, ◌∙◌, ap, subst, arith, append_assoc, append-nil, length-append}
 use Rattle.std.specs.List.{flat_map, list_any, AllPairs}
 use Rattle.std.proofs.lemmas.Bool.{and_parts, cond_both, eq-eqb, leb-true, ltb-true}
 use Rattle.std.proofs.lemmas.Bool.Decides.{nat_tests}
@@ -15,15 +15,14 @@ use Rattle.byte_format.proofs.Lists.{all_left, all_right}
 use Rattle.byte_format.proofs.Numbers.{bytes_2, bytes_4, fits_2, fits_4}
 use Rattle.job_format.specs.Given.{site_of}
 use Rattle.job_format.specs.Job.{IsLoad, IsSite, need_bytes, site_bytes, solve_head}
-use Rattle.job_format.specs.Places.{behind_hop, behind_need, behind_site, has_site, if_right, is_counted, judge_solve, solve_size}
-use Rattle.job_format.specs.declared.fault.JobFault.{JobFault}
+use Rattle.job_format.specs.Places.{behind_hop, behind_need, behind_site, has_site, is_counted, judge_solve, solve_size}
 use Rattle.job_format.specs.declared.fault.JobFault.TheVariants as faults
 use Rattle.job_format.specs.declared.place.Place.{Place}
 use Rattle.job_format.specs.declared.place.Place.TheVariants.{Solve, SolveEnd}
 use Rattle.job_format.specs.declared.place.SolveNumbers.{SolveNumbers}
 use Rattle.job_format.specs.declared.place.SolveStep.{SolveStep}
 use Rattle.job_format.specs.declared.place.SolveStep.TheVariants as solves
-use Rattle.job_format.proofs.Fronts.{Says, SaysLoad, SaysNeeds, SaysSites, SaysSolve, SaysStep, SaysVia}
+use Rattle.job_format.proofs.Fronts.{Says, SaysNeeds, SaysSites, SaysSolve, SaysStep, SaysVia}
 use Rattle.job_format.proofs.Judged.{counted_few, counted_some, joined, led, one_byte, right_led}
 
 -- a field behind a head and what stood behind it
@@ -197,38 +196,47 @@ solve_keeps solves.Nodes n t front field small says size ok =
     let nodes : ℕ = little_number 2 field in
     right_led (λ p. Says p (front ++ field)) (is_counted 4096 nodes) faults.Shape
     (Solve solves.Sites (record n { nodes = nodes })) t
-    (λ is. (counted_some 4096 nodes is, counted_few 4096 nodes is,
-    head_more says field _ _ (sym (bytes_2 field size small)) refl)) ok
+    (λ is. (
+      counted_some 4096 nodes is,
+      counted_few 4096 nodes is,
+      head_more says field _ _ (sym (bytes_2 field size small)) refl,
+    )) ok
 solve_keeps solves.Sites n t front field small (some, few, says) size ok =
     let count : ℕ = slice_index field 0 in
     right_led (λ p. Says p (front ++ field)) (is_counted 32 count) faults.Shape
     (Solve solves.Site (record n { sites = count; sites_left = count })) t
-    (λ is. (counted_some 32 count is, record {
-      some_nodes = some;
-      few_nodes = few;
-      sites = [];
-      each = All-nil IsSite;
-      size = omega arith;
-      some = counted_some 32 count is;
-      few = counted_few 32 count is;
-      head = head_more says field _ _ (one_byte field size) refl;
-    })) ok
+    (λ is. (
+      counted_some 32 count is,
+      record {
+        some_nodes = some;
+        few_nodes = few;
+        sites = [];
+        each = All-nil IsSite;
+        size = omega arith;
+        some = counted_some 32 count is;
+        few = counted_few 32 count is;
+        head = head_more says field _ _ (one_byte field size) refl;
+      },
+    )) ok
 solve_keeps solves.Site n t front field small says size ok =
     led (λ p. Says p (front ++ field)) (behind_site n) t (site_keeps n front field small says size) ok
 solve_keeps solves.Needs n t front field small says size ok =
     let count : ℕ = slice_index field 0 in
     right_led (λ p. Says p (front ++ field)) (is_counted 64 count) faults.Shape
     (Solve solves.Load (record n { needs_left = count })) t
-    (λ is. (counted_some 64 count is, record {
-      short = front;
-      sites = says;
-      needs = [];
-      each = All-nil (IsNeed n.sites);
-      loads = All-nil IsLoad;
-      some = omega (arith, counted_some 64 count is);
-      few = omega (arith, counted_few 64 count is);
-      parts = joined refl (one_byte field size ∙ ap (λ (k : ℕ). k ∷ []) (omega arith));
-    })) ok
+    (λ is. (
+      counted_some 64 count is,
+      record {
+        short = front;
+        sites = says;
+        needs = [];
+        each = All-nil (IsNeed n.sites);
+        loads = All-nil IsLoad;
+        some = omega (arith, counted_some 64 count is);
+        few = omega (arith, counted_few 64 count is);
+        parts = joined refl (one_byte field size ∙ ap (λ (k : ℕ). k ∷ []) (omega arith));
+      },
+    )) ok
 solve_keeps solves.Load n t front field small (some, says) size ok =
     let load : ℕ = little_number 2 field in
     right_led (λ p. Says p (front ++ field)) (nat_le 1 load) faults.Shape (Solve solves.Hops (record n { load = load })) t
@@ -244,14 +252,17 @@ solve_keeps solves.Hops n t front field small says size ok =
     let hops : ℕ = slice_index field 0 in
     right_led (λ p. Says p (front ++ field)) (is_counted 8 hops) faults.Shape
     (Solve solves.Hop (record n { via = []; hops_left = hops })) t
-    (λ is. (counted_some 8 hops is, record {
-      short = front;
-      begun = says;
-      few = omega (arith, counted_few 8 hops is);
-      known = All-nil (λ site. site < n.sites);
-      distinct = λ i j d before there. absurd (omega (arith, there));
-      parts = joined refl (one_byte field size ∙ ap (λ (k : ℕ). k ∷ []) (omega arith));
-    })) ok
+    (λ is. (
+      counted_some 8 hops is,
+      record {
+        short = front;
+        begun = says;
+        few = omega (arith, counted_few 8 hops is);
+        known = All-nil (λ site. site < n.sites);
+        distinct = λ i j d before there. absurd (omega (arith, there));
+        parts = joined refl (one_byte field size ∙ ap (λ (k : ℕ). k ∷ []) (omega arith));
+      },
+    )) ok
 solve_keeps solves.Hop n t front field small says size ok =
     let site : ℕ = slice_index field 0 in
     right_led (λ p. Says p (front ++ field)) (nat_lt site n.sites && not (has_site n.via site)) faults.Shape

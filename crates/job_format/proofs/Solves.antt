@@ -1,5 +1,5 @@
 -- What the sites and needs of a solve job lead to.
-use Rattle.std.proofs.Common.{◌≡◌, ◌<◌, ◌≤◌, ◌≢◌, ℕ, suc, ◌-◌, ◌^◌, ◌&&◌, not, nat_le, nat_lt, ◌==◌, Bool, true, false, cond, List, [], ◌∷◌, ◌++◌, length, All, Ok, refl, sym, ◌∙◌, ap, subst, arith, append_assoc, length-append}
+use Rattle.std.proofs.Common.{◌≡◌, ◌<◌, ◌≤◌, ◌≢◌, ℕ, suc, ◌-◌, ◌&&◌, not, nat_le, nat_lt, ◌==◌, Bool, true, false, cond, List, [], ◌∷◌, ◌++◌, length, All, refl, sym, ◌∙◌, ap, subst, arith, append_assoc, length-append}
 use Rattle.std.specs.List.{flat_map, AllByRecursion, AllPairs}
 use Rattle.std.proofs.Math.Seq.{get_or-append_seam}
 use Rattle.std.proofs.lemmas.Bool.{and_from, le-leb, lt-leb, lt-ltb, ne_eqb, not_from_false}
@@ -13,7 +13,7 @@ use Rattle.byteorder.specs.Endian.{little_bytes}
 use Rattle.byte_format.proofs.Numbers.{number_2, number_4}
 use Rattle.job_format.specs.Given.{item_gives, need_by, need_gives, site_gives}
 use Rattle.job_format.specs.Job.{IsLoad, IsSite, need_bytes, site_bytes}
-use Rattle.job_format.specs.Places.{behind_hop, behind_need, behind_site, has_site, if_right, is_counted, judge_place}
+use Rattle.job_format.specs.Places.{behind_hop, behind_need, behind_site, has_site, is_counted, judge_place}
 use Rattle.job_format.specs.declared.fault.JobFault.TheVariants as faults
 use Rattle.job_format.specs.declared.place.Place.{Place}
 use Rattle.job_format.specs.declared.place.Place.TheVariants.{Solve, SolveEnd}
@@ -59,7 +59,7 @@ site_walks n site is =
 
 pub sites_walk : (n : SolveNumbers) (sites : List Site) (site : Site) → AllByRecursion IsSite (site ∷ sites)
     → Walks (Solve solves.Site (record n { sites_left = length (site ∷ sites) })) (flat_map site_bytes (site ∷ sites))
-      (Solve solves.Needs (record n { sites_left = 0 })) [] (site ∷ sites) []
+    (Solve solves.Needs (record n { sites_left = 0 })) [] (site ∷ sites) []
 sites_walk n [] site (is, none) = chain (site_walks (record n { sites_left = 1 }) site is) (stays _)
 sites_walk n (next ∷ sites) site (is, each) =
     let left : ℕ = length (next ∷ sites) in
@@ -93,7 +93,7 @@ module _ (n : SolveNumbers) where
 
   hop_walks : (needs load : ℕ) (via : List ℕ) (hops site : ℕ) → site < n.sites → has_site via site ≡ false
       → Walks (Solve solves.Hop (reading needs load via hops)) (site ∷ []) (behind_hop (reading needs load via hops) site)
-        [] [] (need_by (reading needs load via hops) site)
+      [] [] (need_by (reading needs load via hops) site)
   unfolding judge_place item_gives site_gives need_gives
   hop_walks needs load via hops site known new =
       field (Solve solves.Hop (reading needs load via hops)) (behind_hop (reading needs load via hops) site) (site ∷ []) refl
@@ -103,7 +103,7 @@ module _ (n : SolveNumbers) where
   hops_walk : (needs load : ℕ) (rest named : List ℕ) (site : ℕ) → AllByRecursion (λ s. s < n.sites) (site ∷ rest)
       → AllPairs (λ a b. a ≢ b) (named ++ site ∷ rest)
       → Walks (Solve solves.Hop (reading needs load named (length (site ∷ rest)))) (site ∷ rest)
-        (behind_need (reading needs 0 [] 0)) [] [] (record { load = load; via = named ++ site ∷ rest } ∷ [])
+      (behind_need (reading needs 0 [] 0)) [] [] (record { load = load; via = named ++ site ∷ rest } ∷ [])
   hops_walk needs load [] named site (known, none) distinct =
       hop_walks needs load named 1 site known (unnamed named site [] distinct)
   hops_walk needs load (next ∷ rest) named site (known, all) distinct =
@@ -124,7 +124,7 @@ module _ (n : SolveNumbers) where
   via_walks : (needs load : ℕ) (via : List ℕ) → 1 ≤ length via → length via ≤ 8 → All (λ s. s < n.sites) via
       → AllPairs (λ a b. a ≢ b) via
       → Walks (Solve solves.Hops (reading needs load [] 0)) ((length via ∷ []) ++ via)
-        (behind_need (reading needs 0 [] 0)) [] [] (record { load = load; via = via } ∷ [])
+      (behind_need (reading needs 0 [] 0)) [] [] (record { load = load; via = via } ∷ [])
   unfolding judge_place item_gives site_gives need_gives
   via_walks needs load [] some few known distinct = absurd (omega (arith, some))
   via_walks needs load (site ∷ rest) some few known distinct =
@@ -136,7 +136,7 @@ module _ (n : SolveNumbers) where
 
   need_walks : (needs : ℕ) (need : Need) → IsNeed n.sites need → IsLoad need
       → Walks (Solve solves.Load (reading needs 0 [] 0)) (need_bytes need) (behind_need (reading needs 0 [] 0)) [] []
-        (need ∷ [])
+      (need ∷ [])
   unfolding judge_place item_gives site_gives need_gives
   need_walks needs need is fits =
       chain
@@ -149,7 +149,7 @@ module _ (n : SolveNumbers) where
   pub needs_walk : (needs : List Need) (need : Need) → AllByRecursion (IsNeed n.sites) (need ∷ needs)
       → AllByRecursion IsLoad (need ∷ needs)
       → Walks (Solve solves.Load (reading (length (need ∷ needs)) 0 [] 0)) (flat_map need_bytes (need ∷ needs))
-        (SolveEnd (reading 0 0 [] 0)) [] [] (need ∷ needs)
+      (SolveEnd (reading 0 0 [] 0)) [] [] (need ∷ needs)
   needs_walk [] need (is, none) (fits, all) = chain (need_walks 1 need is fits) (stays _)
   needs_walk (next ∷ needs) need (is, each) (fits, all) =
       let left : ℕ = length (next ∷ needs) in

@@ -25,8 +25,8 @@ use Rattle.job_format.proofs.Walks.{Walks, chain, giving, starting}
 -- a spelling of a replay job
 replay_walks : (job : ReplayJob) (bytes : List ℕ) → SpellsReplay job bytes
     → Walks job_start bytes
-      (ReplayEnd (numbers_of job.number job.setting) (record { items = length job.items; weight = weight_of job.items }))
-      job.items [] []
+    (ReplayEnd (numbers_of job.number job.setting) (record { items = length job.items; weight = weight_of job.items }))
+    job.items [] []
 replay_walks job bytes spells =
     let h : HeadNumbers = numbers_of job.number job.setting in
     let tally : Tally = record { items = length job.items; weight = weight_of job.items } in
@@ -57,8 +57,8 @@ solved number nodes sites = record {
 problem_walks : (number nodes : ℕ) (sites : List Site) (needs : List Need) → 1 ≤ nodes → nodes ≤ 4096
     → IsWithin sites needs → All IsSite sites → All IsLoad needs
     → Walks (Solve solves.Nodes (solve_start number))
-      (little_bytes 2 nodes ++ problem_bytes (record { sites = sites; needs = needs }))
-      (SolveEnd (solved number nodes (length sites))) [] sites needs
+    (little_bytes 2 nodes ++ problem_bytes (record { sites = sites; needs = needs }))
+    (SolveEnd (solved number nodes (length sites))) [] sites needs
 problem_walks number nodes [] needs some few is each loads = absurd (omega (arith, is.some_sites))
 problem_walks number nodes (site ∷ sites) [] some few is each loads = absurd (omega (arith, is.some_needs))
 problem_walks number nodes (site ∷ sites) (need ∷ needs) some few is each loads =
@@ -75,7 +75,7 @@ problem_walks number nodes (site ∷ sites) (need ∷ needs) some few is each lo
 -- a spelling of a solve job
 solve_walks : (job : SolveJob) (bytes : List ℕ) → SpellsSolve job bytes
     → Walks job_start bytes (SolveEnd (solved job.number job.nodes (length job.problem.sites))) [] job.problem.sites
-      job.problem.needs
+    job.problem.needs
 solve_walks job bytes spells =
     let is : IsSolveJob job = spells.within in
     starting
@@ -85,7 +85,7 @@ solve_walks job bytes spells =
 
 solve_same : (number nodes : ℕ) (a b : List Site) (c d : List Need) → a ≡ b → c ≡ d
     → ◌≡◌ {A = Job} (SolveIt (record { number = number; nodes = nodes; problem = record { sites = a; needs = c } }))
-      (SolveIt (record { number = number; nodes = nodes; problem = record { sites = b; needs = d } }))
+    (SolveIt (record { number = number; nodes = nodes; problem = record { sites = b; needs = d } }))
 solve_same number nodes a b c d p q =
     λ x. SolveIt (record { number = number; nodes = nodes; problem = record { sites = p x; needs = q x } })
 
@@ -93,11 +93,14 @@ solve_same number nodes a b c d p q =
 pub spelled_on : (job : Job) (bytes : List ℕ) → SpellsJob job bytes
     → (place : Place) × (reached job_format (At job_start []) bytes ≡ At place []) × IsWhole place bytes job
 spelled_on (Replay job) bytes spells =
-    let walks = replay_walks job bytes spells in
-    (ReplayEnd (numbers_of job.number job.setting) (record { items = length job.items; weight = weight_of job.items }),
-    walks.leads,
-    ap (λ (l : List Item). Replay (record { number = job.number; setting = job.setting; items = l })) (sym walks.gives_items))
+    let walks = replay_walks job bytes spells in (
+      ReplayEnd (numbers_of job.number job.setting) (record { items = length job.items; weight = weight_of job.items }),
+      walks.leads,
+      ap (λ (l : List Item). Replay (record { number = job.number; setting = job.setting; items = l })) (sym walks.gives_items),
+    )
 spelled_on (SolveIt job) bytes spells =
-    let walks = solve_walks job bytes spells in
-    (SolveEnd (solved job.number job.nodes (length job.problem.sites)), walks.leads,
-    solve_same job.number job.nodes _ _ _ _ (sym walks.gives_sites) (sym walks.gives_needs))
+    let walks = solve_walks job bytes spells in (
+      SolveEnd (solved job.number job.nodes (length job.problem.sites)),
+      walks.leads,
+      solve_same job.number job.nodes _ _ _ _ (sym walks.gives_sites) (sym walks.gives_needs),
+    )

@@ -1,12 +1,12 @@
 -- One spelling of each job, and one reading of all bytes.
-use Rattle.std.proofs.Common.{◌≡◌, ◌<◌, ℕ, Bool, false, true, List, [], ◌∷◌, ◌++◌, length, All, Result, Ok, Err, refl, sym, ◌∙◌, ap, subst, arith, append-nil, inl, inr}
+use Rattle.std.proofs.Common.{◌≡◌, ◌<◌, ℕ, true, List, [], ◌∷◌, ◌++◌, All, Result, Ok, Err, refl, sym, ◌∙◌, ap, subst, arith, append-nil, inl, inr}
 use Rattle.std.specs.List.{flat_map}
 use Rattle.std.proofs.lemmas.Bool.{cases_Bool}
 use Rattle.byteorder.specs.Endian.{little_bytes}
 use Rattle.byte_format.specs.Format.{At, Broken, Reached, judged, reached}
 use Rattle.byte_format.proofs.Formats.{reached-append, reached-broken, reached-field}
 use Rattle.job_format.specs.Job.{IsJob, Job, Replay, Solve as SolveIt, SpellsJob, frame_bytes, replay_head}
-use Rattle.job_format.specs.Places.{job_format, job_start, judge_place, place_size}
+use Rattle.job_format.specs.Places.{job_format, job_start, judge_place}
 use Rattle.job_format.specs.Read.{ReadsJob, is_end}
 use Rattle.job_format.specs.declared.fault.JobFault.{JobFault}
 use Rattle.job_format.specs.declared.fault.JobFault.TheVariants.{Short, Extra}
@@ -21,9 +21,10 @@ use Rattle.job_format.proofs.Spelled.{spelled_on}
 -- a job within its limits is spelled
 pub some_spelling : (job : Job) → IsJob job → (bytes : List ℕ) × SpellsJob job bytes
 some_spelling (Replay job) is =
-    let cut = frames_some job.items in
-    (replay_head job.number job.setting ++ (flat_map frame_bytes cut.0 ++ little_bytes 2 0),
-    record { within = is; frames = cut.0; framed = cut.1; parts = refl })
+    let cut = frames_some job.items in (
+      replay_head job.number job.setting ++ (flat_map frame_bytes cut.0 ++ little_bytes 2 0),
+      record { within = is; frames = cut.0; framed = cut.1; parts = refl },
+    )
 some_spelling (SolveIt job) is = (_, record { within = is; parts = refl })
 
 -- in one way
