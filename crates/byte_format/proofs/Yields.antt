@@ -1,8 +1,8 @@
 -- What the fields of a format give.
-use Rattle.std.proofs.Common.{◌≡◌, ◌<◌, ℕ, ◌+◌, List, [], ◌∷◌, ◌++◌, length, refl, sym, ◌∙◌, ap, Ok, arith, append_assoc, append-nil, length-append}
+use Rattle.std.proofs.Common.{◌≡◌, ◌<◌, ℕ, ◌+◌, List, [], ◌∷◌, ◌++◌, length, refl, sym, ◌∙◌, ap, arith, append_assoc, append-nil, length-append}
 use Rattle.std.proofs.lemmas.Bool.Decides.{nat_tests}
 use Rattle.byte_format.specs.Format.{Format, Reached, At, given, onward, reached, yields}
-use Rattle.byte_format.proofs.Formats.{TakesBytes, onward_more, reached-whole}
+use Rattle.byte_format.proofs.Formats.{TakesBytes, onward_more}
 
 module _ {S F X : Type 0} (g : Format S F) (gives : S → List ℕ → List X) where
   -- bytes in two pieces
@@ -39,11 +39,8 @@ module _ {S F X : Type 0} (g : Format S F) (gives : S → List ℕ → List X) w
       ∙ yields-field place (part ++ b ∷ []) (c ∷ more) (omega arith) (omega (arith, full, length-append part (b ∷ [])))
       ∙ ap (λ (l : List ℕ). gives place l) (append_assoc part (b ∷ []) (c ∷ more))
 
-  -- a field that stands gives what it gives, and then what follows does
-  pub yields-on : TakesBytes g → (s t : S) (field rest : List ℕ) → length field ≡ g.size s → g.judge s field ≡ Ok t
-      → yields g gives (At s []) (field ++ rest) ≡ gives s field ++ yields g gives (At t []) rest
-  yields-on takes s t field rest whole ok =
-      yields-append (At s []) field rest
-      ∙ ap (λ (l : List X). l ++ yields g gives (reached g (At s []) field) rest)
-      (yields-field s [] field (omega (arith, whole, takes.some s)) (omega (arith, whole)))
-      ∙ ap (λ (r : Reached S F). gives s field ++ yields g gives r rest) (reached-whole g takes s t field whole ok)
+  -- a field gives what it gives
+  pub yields-whole : TakesBytes g → (s : S) (field : List ℕ) → length field ≡ g.size s
+      → yields g gives (At s []) field ≡ gives s field
+  yields-whole takes s field whole =
+      yields-field s [] field (omega (arith, whole, takes.some s)) (omega (arith, whole))

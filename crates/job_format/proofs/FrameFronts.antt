@@ -21,8 +21,8 @@ use Rattle.job_format.specs.declared.place.HeadNumbers.{HeadNumbers}
 use Rattle.job_format.specs.declared.place.Place.{Place}
 use Rattle.job_format.specs.declared.place.Place.TheVariants.{Count, Key, Weight, ReplayEnd}
 use Rattle.job_format.specs.declared.place.Tally.{Tally}
-use Rattle.job_format.proofs.Fronts.{AreItems, Says, SaysClosed, SaysFrames, SaysItems, SaysKey, SaysReplay}
-use Rattle.job_format.proofs.Judged.{joined, led, right_led}
+use Rattle.job_format.proofs.Fronts.{AreItems, begun_bytes, Says, SaysClosed, SaysFrames, SaysItems, SaysKey, SaysReplay}
+use Rattle.job_format.proofs.Judged.{choice_led, joined, led, right_led}
 
 -- a field behind a head and what stood behind it
 head_more : {h : HeadNumbers} {front more : List ℕ} → SaysReplay h front more → (field b all : List ℕ) → field ≡ b
@@ -102,6 +102,9 @@ closed_keeps h tally front field small says size none = record {
   parts = joined refl (sym (bytes_2 field size small) ∙ ap (little_bytes 2) none);
 }
 
+some_of : (count : ℕ) → (count == 0) ≡ false → 1 ≤ count
+some_of count is = grind (arith, nat_tests)
+
 -- what lets a frame follow
 record Follows (tally : Tally) (count : ℕ) : Type 0 where
   few : count ≤ frame_limit
@@ -110,8 +113,9 @@ record Follows (tally : Tally) (count : ℕ) : Type 0 where
 
 follows_of : (tally : Tally) (count : ℕ) → may_follow tally count ≡ true → Follows tally count
 follows_of tally count is =
-    let parts = and_parts (nat_le count frame_limit && tally.items % frame_limit == 0) (nat_lt tally.items item_limit) is in
-    let first = and_parts (nat_le count frame_limit) (tally.items % frame_limit == 0) parts.0 in
+    let even : Bool = tally.items % frame_limit == 0 in
+    let parts = and_parts (nat_le count frame_limit && even) (nat_lt tally.items item_limit) is in
+    let first = and_parts (nat_le count frame_limit) even parts.0 in
     record {
       few = leb-true count frame_limit first.0;
       even = eqb-true (tally.items % frame_limit) 0 first.1;
@@ -152,17 +156,17 @@ pub count_keeps : (h : HeadNumbers) (tally : Tally) (t : Place) (front field : L
     → SaysFrames h tally front → length field ≡ 2 → judge_count h tally field ≡ Ok t → Says t (front ++ field)
 count_keeps h tally t front field small says size ok =
     let count : ℕ = little_number 2 field in
-    let so : Place → Type 0 = λ p. Says p (front ++ field) in
     let begun : Place = Key h (with_frame tally count) count in
-    let follow : Result Place JobFault = if_right (may_follow tally count) faults.Shape begun in
-    let cases : (test : Bool) → (test ≡ true → count ≡ 0) → (test ≡ false → 1 ≤ count)
-    → cond test (Ok (ReplayEnd h tally)) follow ≡ Ok t → so t =
-    λ test none some. elim test as (λ v. (v ≡ true → count ≡ 0) → (v ≡ false → 1 ≤ count) → cond v (Ok (ReplayEnd h tally)) follow ≡ Ok t → so t) [
-      | true ↦ λ none some ok. led so (ReplayEnd h tally) t (closed_keeps h tally front field small says size (none refl)) ok
-      | false ↦ λ none some ok. right_led so (may_follow tally count) faults.Shape begun t
-          (λ is. (some refl, begun_keeps h tally count front field says (sym (bytes_2 field size small)) (follows_of tally count is))) ok
-    ] none some in
-    cases (count == 0) (λ is. eqb-true count 0 is) (λ is. grind (arith, nat_tests)) ok
+    let bytes : field ≡ little_bytes 2 count = sym (bytes_2 field size small) in
+    let closes : count ≡ 0 → Says (ReplayEnd h tally) (front ++ field) =
+    λ none. closed_keeps h tally front field small says size none in
+    let begins : 1 ≤ count → may_follow tally count ≡ true → Says begun (front ++ field) =
+    λ some is. (some, begun_keeps h tally count front field says bytes (follows_of tally count is)) in
+    choice_led (λ p. Says p (front ++ field)) (count == 0) (Ok (ReplayEnd h tally))
+    (if_right (may_follow tally count) faults.Shape begun) t
+    (λ is. led (λ p. Says p (front ++ field)) (ReplayEnd h tally) t (closes (eqb-true count 0 is)))
+    (λ is. right_led (λ p. Says p (front ++ field)) (may_follow tally count) faults.Shape begun t
+    (begins (some_of count is))) ok
 
 pub key_keeps : (h : HeadNumbers) (tally : Tally) (left : ℕ) (t : Place) (front field : List ℕ)
     → All (λ byte. byte < 256) field → (1 ≤ left) × SaysItems h tally left front → length field ≡ key_size
@@ -206,7 +210,9 @@ item_keeps : (h : HeadNumbers) (tally : Tally) (left : ℕ) (item : Item) (front
     → (says : SaysItems h (with_weight tally item.weight) (left - 1) (front ++ field)) × (1 ≤ length says.begun)
 item_keeps h tally left item front field says fits is light =
     let items : SaysItems h tally left says.short = says.items in
+    let begun : List Item = items.begun ++ item ∷ [] in
     let push = length-append items.begun (item ∷ []) in
+    let is_item : IsItem item = record { key = says.is_key; weight = fits } in
     let parts : front ++ field ≡ says.short ++ (key_bytes item.key ++ field) =
     joined says.parts refl ∙ append_assoc says.short (key_bytes item.key) field in
     let same : (items.before ++ items.begun) ++ item ∷ [] ≡ items.before ++ (items.begun ++ item ∷ []) =
@@ -214,19 +220,16 @@ item_keeps h tally left item front field says fits is light =
       record {
         frames = items.frames;
         before = items.before;
-        begun = items.begun ++ item ∷ [];
+        begun = begun;
         all = items.all;
         full = items.full;
         within =
             subst (λ (l : List Item). AreItems l (with_weight tally item.weight)) same
-            (items_push (items.before ++ items.begun) item tally items.within (record { key = says.is_key; weight = fits }) light);
+            (items_push (items.before ++ items.begun) item tally items.within is_item light);
         size = omega (arith, items.size, says.some_left, push);
         count = omega (arith, items.count, says.some_left, push);
         head =
-            subst
-            (λ (l : List ℕ). SaysReplay h l
-            (flat_map frame_bytes items.frames
-            ++ (little_bytes 2 (length (items.begun ++ item ∷ []) + (left - 1)) ++ flat_map item_bytes (items.begun ++ item ∷ []))))
+            subst (λ (l : List ℕ). SaysReplay h l (begun_bytes items.frames begun (length begun + (left - 1))))
             (sym parts)
             (head_more items.head (key_bytes item.key ++ field) (item_bytes item) _
             (ap (λ (l : List ℕ). key_bytes item.key ++ l) is)
@@ -251,8 +254,7 @@ weight_keeps h tally left key t front field small says size ok =
     right_led (λ p. Says p (front ++ field)) (nat_le (tally.weight + item.weight) weight_limit) faults.Shape
     (behind_item h (with_weight tally item.weight) left) t
     (λ is.
-    let more : (says : SaysItems h (with_weight tally item.weight) (left - 1) (front ++ field)) × (1 ≤ length says.begun) =
+    let more =
     item_keeps h tally left item front field says (fits_4 field small) (sym (bytes_4 field size small))
     (leb-true (tally.weight + item.weight) weight_limit is) in
-    behind_keeps h (with_weight tally item.weight) left (front ++ field) says.some_left more.0
-    more.1) ok
+    behind_keeps h (with_weight tally item.weight) left (front ++ field) says.some_left more.0 more.1) ok

@@ -74,6 +74,10 @@ pub record SaysFrames (h : HeadNumbers) (tally : Tally) (front : List ℕ) : Typ
   pub count : tally.items ≡ length items
   pub head : SaysReplay h front (flat_map frame_bytes frames)
 
+-- the bytes of whole frames, and of one that is begun and has so many items
+abbrev pub begun_bytes : List (List Item) → List Item → ℕ → List ℕ
+begun_bytes frames begun count = flat_map frame_bytes frames ++ (little_bytes 2 count ++ flat_map item_bytes begun)
+
 -- full frames, and one that is begun
 pub record SaysItems (h : HeadNumbers) (tally : Tally) (left : ℕ) (front : List ℕ) : Type 0 where
   pub frames : List (List Item)
@@ -84,8 +88,7 @@ pub record SaysItems (h : HeadNumbers) (tally : Tally) (left : ℕ) (front : Lis
   pub within : AreItems (before ++ begun) tally
   pub size : length begun + left ≤ frame_limit
   pub count : tally.items ≡ length before + (length begun + left)
-  pub head : SaysReplay h front
-      (flat_map frame_bytes frames ++ (little_bytes 2 (length begun + left) ++ flat_map item_bytes begun))
+  pub head : SaysReplay h front (begun_bytes frames begun (length begun + left))
 
 -- the key of an item behind these
 pub record SaysKey (h : HeadNumbers) (tally : Tally) (left : ℕ) (key front : List ℕ) : Type 0 where

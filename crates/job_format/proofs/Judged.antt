@@ -1,5 +1,5 @@
 -- What a field is, where it was judged right.
-use Rattle.std.proofs.Common.{◌≡◌, ◌≤◌, ℕ, ◌&&◌, ◌==◌, nat_le, Bool, true, false, List, [], ◌∷◌, ◌++◌, length, slice_index, Result, Ok, refl, ◌∙◌, ap, subst, arith}
+use Rattle.std.proofs.Common.{◌≡◌, ◌≤◌, ℕ, ◌&&◌, ◌==◌, nat_le, Bool, true, false, cond, List, [], ◌∷◌, ◌++◌, length, slice_index, Result, Ok, refl, ◌∙◌, ap, subst, arith}
 use Rattle.std.proofs.lemmas.Bool.{and_parts, eqb-true, leb-true}
 use Rattle.job_format.specs.Places.{if_right, is_counted, is_magic}
 use Rattle.job_format.specs.declared.fault.JobFault.{JobFault}
@@ -14,6 +14,12 @@ pub right_led : (P : Place → Type 0) (test : Bool) (fault : JobFault) (from to
     → if_right test fault from ≡ Ok to → P to
 right_led P true fault from to is same = led P from to (is refl) same
 right_led P false fault from to is same = absurd (cc)
+
+-- and where one of two answers does
+pub choice_led : (P : Place → Type 0) (test : Bool) (one other : Result Place JobFault) (to : Place)
+    → (test ≡ true → one ≡ Ok to → P to) → (test ≡ false → other ≡ Ok to → P to) → cond test one other ≡ Ok to → P to
+choice_led P true one other to first second same = first refl same
+choice_led P false one other to first second same = second refl same
 
 -- a front and a field behind it
 pub joined : {front field a b : List ℕ} → front ≡ a → field ≡ b → front ++ field ≡ a ++ b
