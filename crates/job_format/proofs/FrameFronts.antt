@@ -1,5 +1,5 @@
 -- What the fields of a replay job behind its head keep.
-use Rattle.std.proofs.Common.{◌≡◌, ◌≤◌, ◌<◌, ℕ, ◌+◌, ◌-◌, ◌%◌, ◌^◌, ◌&&◌, ◌==◌, nat_le, nat_lt, Bool, true, false, cond, List, [], ◌∷◌, ◌++◌, length, All, Result, Ok, refl, sym, ◌∙◌, ap, subst, arith, append_assoc, append-nil, length-append}
+use Rattle.std.proofs.Common.{◌≡◌, ◌≤◌, ◌<◌, ℕ, ◌+◌, ◌-◌, ◌%◌, ◌^◌, ◌&&◌, ◌==◌, nat_le, nat_lt, Bool, true, false, List, [], ◌∷◌, ◌++◌, length, All, Ok, refl, sym, ◌∙◌, ap, subst, arith, append_assoc, append-nil, length-append}
 use Rattle.std.specs.List.{flat_map, AllByRecursion}
 use Rattle.std.proofs.lemmas.Bool.{and_parts, cond_both, eqb-true, leb-true, ltb-true}
 use Rattle.std.proofs.lemmas.Bool.Decides.{nat_tests}
@@ -14,7 +14,6 @@ use Rattle.flow_keys.specs.Key.{is_valid}
 use Rattle.job_format.specs.Job.{AreFull, IsFrame, IsFull, IsItem, frame_bytes, frame_limit, item_bytes, item_limit, replay_head, weight_limit, weight_of}
 use Rattle.job_format.specs.Places.{behind_item, if_right, judge_count, judge_key, judge_weight, may_follow, with_frame, with_weight}
 use Rattle.job_format.specs.Read.{setting_in}
-use Rattle.job_format.specs.declared.fault.JobFault.{JobFault}
 use Rattle.job_format.specs.declared.fault.JobFault.TheVariants as faults
 use Rattle.job_format.specs.declared.item.Item.{Item}
 use Rattle.job_format.specs.declared.place.HeadNumbers.{HeadNumbers}

@@ -1,7 +1,7 @@
 -- What the items and frames of a replay job lead to.
-use Rattle.std.proofs.Common.{◌≡◌, ◌<◌, ◌≤◌, ℕ, suc, ◌+◌, ◌-◌, ◌%◌, ◌^◌, nat_le, Bool, true, cond, if◌then◌else◌, ◌==◌, Result, List, [], ◌∷◌, ◌++◌, length, All, Ok, refl, ◌∙◌, ap, arith, length-append}
+use Rattle.std.proofs.Common.{◌≡◌, ◌<◌, ◌≤◌, ℕ, suc, ◌+◌, ◌-◌, ◌%◌, ◌^◌, nat_le, true, cond, ◌==◌, Result, List, [], ◌∷◌, ◌++◌, length, All, Ok, refl, ◌∙◌, ap, arith, length-append}
 use Rattle.std.specs.List.{flat_map, AllByRecursion}
-use Rattle.std.proofs.lemmas.Bool.{le-leb, lt-leb, ne_eqb}
+use Rattle.std.proofs.lemmas.Bool.{cond-false, le-leb, lt-leb, ne_eqb}
 use Rattle.std.proofs.lemmas.Bool.Decides.{nat_tests}
 use Rattle.std.proofs.lemmas.List.Elements.{recursion_from_All}
 use Rattle.std.proofs.lemmas.List.Sums.{sum_by-append, sum_by-cons}
@@ -21,11 +21,12 @@ use Rattle.job_format.specs.declared.place.HeadNumbers.{HeadNumbers}
 use Rattle.job_format.specs.declared.place.Place.{Place}
 use Rattle.job_format.specs.declared.place.Place.TheVariants.{Count, Key, Weight, ReplayEnd}
 use Rattle.job_format.specs.declared.place.Tally.{Tally}
-use Rattle.job_format.proofs.Walks.{Walks, ending, field, giving, right, stays, chain}
+use Rattle.job_format.proofs.Walks.{Passes, Walks, ending, field, giving, right, stays, chain}
 
-behind_more : (h : HeadNumbers) (tally : Tally) (left : ℕ) → 1 ≤ left → behind_item h tally (suc left) ≡ Key h tally left
+behind_more : (h : HeadNumbers) (tally : Tally) (left : ℕ) → 1 ≤ left
+    → behind_item h tally (suc left) ≡ Key h tally left
 behind_more h tally left some =
-    ap (λ (b : Bool). cond b (Count h tally) (Key h tally (suc left - 1))) (lt-leb (suc left) 1 (omega arith))
+    cond-false (nat_le (suc left) 1) (Count h tally) (Key h tally (suc left - 1)) (lt-leb (suc left) 1 (omega arith))
     ∙ ap (λ (n : ℕ). Key h tally n) (omega arith)
 
 key_walks : (h : HeadNumbers) (tally : Tally) (left : ℕ) (key : List ℕ) → IsKey key
@@ -43,12 +44,11 @@ weight_walks : (h : HeadNumbers) (tally : Tally) (left : ℕ) (key : List ℕ) (
     (record { key = key; weight = weight } ∷ []) [] []
 unfolding judge_place item_gives site_gives need_gives
 weight_walks h tally left key weight fits light =
+    let behind : ℕ → Place = λ n. behind_item h (with_weight tally n) left in
     giving
-    (field (Weight h tally left key) (behind_item h (with_weight tally weight) left) (little_bytes 4 weight) refl
-    (ap
-    (λ (n : ℕ). if_right (nat_le (tally.weight + n) weight_limit) faults.Shape (behind_item h (with_weight tally n) left))
-    (number_4 weight fits)
-    ∙ right (nat_le (tally.weight + weight) weight_limit) faults.Shape (behind_item h (with_weight tally weight) left)
+    (field (Weight h tally left key) (behind weight) (little_bytes 4 weight) refl
+    (ap (λ (n : ℕ). if_right (nat_le (tally.weight + n) weight_limit) faults.Shape (behind n)) (number_4 weight fits)
+    ∙ right (nat_le (tally.weight + weight) weight_limit) faults.Shape (behind weight)
     (le-leb (tally.weight + weight) weight_limit light)))
     (ap (λ (n : ℕ). record { key = key; weight = n } ∷ []) (number_4 weight fits)) refl refl
 
@@ -82,19 +82,17 @@ items_walk h (next ∷ items) item tally weight (is, each) sum light =
 -- what a count is judged as
 abbrev judged_count : HeadNumbers → Tally → ℕ → Result Place JobFault
 judged_count h tally count =
-    if count == 0 then Ok (ReplayEnd h tally)
-    else if_right (may_follow tally count) faults.Shape (Key h (with_frame tally count) count)
+    cond (count == 0) (Ok (ReplayEnd h tally))
+    (if_right (may_follow tally count) faults.Shape (Key h (with_frame tally count) count))
 
 counted : (h : HeadNumbers) (tally : Tally) (count : ℕ) → 1 ≤ count → count ≤ frame_limit
     → tally.items % frame_limit ≡ 0 → tally.items < item_limit
     → judged_count h tally count ≡ Ok (Key h (with_frame tally count) count)
 counted h tally count some few full room =
+    let place : Place = Key h (with_frame tally count) count in
     let follows : may_follow tally count ≡ true = grind (arith, nat_tests) in
-    ap
-    (λ (b : Bool).
-    if b then Ok (ReplayEnd h tally) else if_right (may_follow tally count) faults.Shape (Key h (with_frame tally count) count))
-    (ne_eqb count 0 (λ e. omega arith))
-    ∙ right (may_follow tally count) faults.Shape (Key h (with_frame tally count) count) follows
+    cond-false (count == 0) (Ok (ReplayEnd h tally)) (if_right (may_follow tally count) faults.Shape place)
+    (ne_eqb count 0 (λ e. omega arith)) ∙ right (may_follow tally count) faults.Shape place follows
 
 -- a count behind full frames
 count_walks : (h : HeadNumbers) (tally : Tally) (count : ℕ) → 1 ≤ count → count ≤ frame_limit
@@ -154,13 +152,13 @@ frames_walk h (frame ∷ next ∷ frames) tally count weight (is, are) (whole, f
     let parts = weight_append frame rest in
     chain
     (frame_walks h tally frame (tally.weight + weight_of frame) is
-    (recursion_from_All IsItem frame (all_left IsItem frame rest each)) even (omega (arith, is, counted, few, size)) refl
-    (omega (arith, parts, weighs, light)))
-    (frames_walk h (next ∷ frames) (record { items = tally.items + length frame; weight = tally.weight + weight_of frame })
-    count weight are full (all_right IsItem frame rest each) (omega (arith, even, whole))
+    (recursion_from_All IsItem frame (all_left IsItem frame rest each)) even
+    (omega (arith, is, counted, few, size)) refl (omega (arith, parts, weighs, light)))
+    (frames_walk h (next ∷ frames)
+    (record { items = tally.items + length frame; weight = tally.weight + weight_of frame }) count weight are full (all_right IsItem frame rest each) (omega (arith, even, whole))
     (omega (arith, size, counted)) few (omega (arith, parts, weighs)) light)
 
 -- a count of 0
-pub close_walks : (h : HeadNumbers) (tally : Tally) → Walks (Count h tally) (little_bytes 2 0) (ReplayEnd h tally) [] [] []
+pub close_walks : (h : HeadNumbers) (tally : Tally) → Passes (Count h tally) (little_bytes 2 0) (ReplayEnd h tally)
 unfolding judge_place item_gives site_gives need_gives
 close_walks h tally = field (Count h tally) (ReplayEnd h tally) (little_bytes 2 0) refl refl

@@ -22,7 +22,8 @@ cut (suc most) (item ∷ items) few = elim (cases_lt frame_limit (length (item �
       let front : List Item = take frame_limit whole in
       let back : List Item = drop frame_limit whole in
       let size : length front ≡ frame_limit = length-take-le frame_limit whole (omega (arith, more)) in
-      let rest : (frames : List (List Item)) × AreFrames frames back = cut most back (omega (arith, few, length-drop frame_limit whole)) in (
+      let rest : (frames : List (List Item)) × AreFrames frames back =
+      cut most back (omega (arith, few, length-drop frame_limit whole)) in (
         front ∷ rest.0,
         record {
           all = ap (λ (l : List Item). front ++ l) rest.1.all ∙ take-append-drop frame_limit whole;
@@ -55,6 +56,14 @@ same_front {X} (x ∷ a) b (z ∷ c) d size same =
     let rest = same_front a b c d (omega (arith, size)) more in
     ((λ i. first i ∷ rest.0 i), rest.1)
 
+-- a full frame and another have more items than one frame
+two_long : (f e : List Item) (frames : List (List Item)) (g : List Item) → AllByRecursion IsFrame (f ∷ e ∷ frames)
+    → length f ≡ frame_limit → length g ≤ frame_limit → all_of (f ∷ e ∷ frames) ≡ all_of (g ∷ []) → ⊥
+two_long f e frames g (is, (next, each)) size few same =
+    let whole = length-append f (all_of (e ∷ frames)) in
+    let back = length-append e (all_of frames) in
+    omega (arith, next, size, few, ap length same, length-append g [], whole, back)
+
 frames_one_of : (frames other : List (List Item)) → AllByRecursion IsFrame frames → AreFull frames
     → AllByRecursion IsFrame other → AreFull other → all_of frames ≡ all_of other → frames ≡ other
 frames_one_of [] [] each full each_other full_other same = refl
@@ -65,14 +74,12 @@ frames_one_of (f ∷ frames) [] (is, are) full each_other full_other same =
 frames_one_of (f ∷ []) (g ∷ []) each full each_other full_other same =
     let alike : f ≡ g = sym (append-nil f) ∙ same ∙ append-nil g in
     ap (λ (l : List Item). l ∷ []) alike
-frames_one_of (f ∷ []) (g ∷ h ∷ other) (is, none) full (whole, (next, are)) (size, full_other) same =
-    absurd
-    (omega (arith, is, size, next, ap length same, length-append f [], length-append g (all_of (h ∷ other)), length-append h (all_of other)))
-frames_one_of (f ∷ e ∷ frames) (g ∷ []) (whole, (next, are)) (size, full) (is, none) full_other same =
-    absurd
-    (omega (arith, is, size, next, ap length same, length-append g [], length-append f (all_of (e ∷ frames)), length-append e (all_of frames)))
-frames_one_of (f ∷ e ∷ frames) (g ∷ h ∷ other) (whole, each) (size, full) (also, each_other) (size_other, full_other) same =
-    let parts = same_front f (all_of (e ∷ frames)) g (all_of (h ∷ other)) (size ∙ sym size_other) same in
+frames_one_of (f ∷ []) (g ∷ h ∷ other) (is, none) full each_other (size, full_other) same =
+    absurd (two_long g h other f each_other size is.1 (sym same))
+frames_one_of (f ∷ e ∷ frames) (g ∷ []) each (size, full) (is, none) full_other same =
+    absurd (two_long f e frames g each size is.1 same)
+frames_one_of (f ∷ e ∷ frames) (g ∷ h ∷ other) (is, each) (size, full) (also, each_other) (same_size, full_other) same =
+    let parts = same_front f (all_of (e ∷ frames)) g (all_of (h ∷ other)) (size ∙ sym same_size) same in
     let rest = frames_one_of (e ∷ frames) (h ∷ other) each full each_other full_other parts.1 in
     λ i. parts.0 i ∷ rest i
 

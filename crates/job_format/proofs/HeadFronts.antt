@@ -16,6 +16,7 @@ use Rattle.job_format.specs.declared.place.Kind.TheVariants as kinds
 use Rattle.job_format.specs.declared.place.Place.{Place}
 use Rattle.job_format.specs.declared.place.Place.TheVariants.{Head, Count}
 use Rattle.job_format.proofs.Fronts.{Says, SaysHead, kind_byte}
+use Rattle.job_format.proofs.Heads.{no_items}
 use Rattle.job_format.proofs.Judged.{byte_is, joined, led, magic_is, one_byte, right_led}
 use Rattle.job_format.proofs.Settings.{setting_from}
 
@@ -34,7 +35,7 @@ number_keeps kinds.Solve h front field small says size =
 
 seed_keeps : (h : HeadNumbers) (front field : List ℕ) → All (λ byte. byte < 256) field → SaysHead steps.Seed h front
     → length field ≡ 8
-    → Says (Count (record h { seed = little_number 8 field }) (record { items = 0; weight = 0 })) (front ++ field)
+    → Says (Count (record h { seed = little_number 8 field }) no_items) (front ++ field)
 seed_keeps h front field small (number, levels, rows, width, heap, parts) size = record {
   frames = [];
   items = [];
@@ -83,5 +84,5 @@ head_keeps steps.Heap h t front field small (number, levels, rows, width, parts)
     faults.Shape (Head steps.Seed (record h { heap = little_number 2 field })) t
     (λ is. (number, levels, rows, width, is, joined parts (sym (bytes_2 field size small)))) ok
 head_keeps steps.Seed h t front field small says size ok =
-    led (λ p. Says p (front ++ field)) (Count (record h { seed = little_number 8 field }) (record { items = 0; weight = 0 })) t
+    led (λ p. Says p (front ++ field)) (Count (record h { seed = little_number 8 field }) no_items) t
     (seed_keeps h front field small says size) ok

@@ -4,8 +4,8 @@ mod Frames
 mod Framing
 pub mod Fronts
 mod HeadFronts
-mod Heads
-mod Judged
+pub mod Heads
+pub mod Judged
 pub mod Reading
 pub mod Says
 mod Settings
@@ -14,4 +14,4 @@ mod Solves
 pub mod Spelled
 pub mod Spellings
 mod Vectors
-mod Walks
+pub mod Walks

@@ -92,7 +92,8 @@ breach_of bytes fault is =
 
 ends_of : (place : Place) (bytes part : List ℕ) → reached job_format (At job_start []) bytes ≡ At place part
     → EndsInside job_format job_start bytes place part
-ends_of place bytes part is = subst (λ r. Leads job_format job_start bytes r) is (leads job_format job_takes job_start bytes)
+ends_of place bytes part is =
+    subst (λ r. Leads job_format job_start bytes r) is (leads job_format job_takes job_start bytes)
 
 -- bytes that lead to no end are too short
 pub short_of : (place : Place) (bytes part : List ℕ) → reached job_format (At job_start []) bytes ≡ At place part
@@ -134,7 +135,8 @@ short_told bytes short =
     ap fault_at (ends-reached job_format job_takes short.ends)
     ∙ ap (λ (b : Bool). cond b None (Some Short)) short.inside
 
-breaks_told : (bytes : List ℕ) (fault : JobFault) → Breaks job_format job_start bytes fault → fault_in bytes ≡ Some fault
+breaks_told : (bytes : List ℕ) (fault : JobFault) → Breaks job_format job_start bytes fault
+    → fault_in bytes ≡ Some fault
 unfolding fault_in
 breaks_told bytes fault breaks = ap fault_at (breaks-reached job_format job_takes breaks)
 

@@ -92,7 +92,8 @@ field_keeps : (s t : Place) (front field : List ℕ) → All (λ byte. byte < 25
 unfolding judge_place
 field_keeps (Head step h) t front field small says size ok = head_keeps step h t front field small says size ok
 field_keeps (Count h tally) t front field small says size ok = count_keeps h tally t front field small says size ok
-field_keeps (Key h tally left) t front field small says size ok = key_keeps h tally left t front field small says size ok
+field_keeps (Key h tally left) t front field small says size ok =
+    key_keeps h tally left t front field small says size ok
 field_keeps (Weight h tally left key) t front field small says size ok =
     weight_keeps h tally left key t front field small says size ok
 field_keeps (ReplayEnd h tally) t front field small says size ok = absurd (cc)
@@ -104,8 +105,8 @@ pub place_says : (place : Place) (bytes part : List ℕ) → All (λ byte. byte 
     → reached job_format (At job_start []) bytes ≡ At place part
     → (front : List ℕ) × ((bytes ≡ front ++ part) × Says place front)
 place_says place bytes part small is =
-    reached_says_of job_format (λ byte. byte < 256) Says job_takes (record { on = field_keeps }) job_start place bytes part
-    small refl is
+    reached_says_of job_format (λ byte. byte < 256) Says job_takes (record { on = field_keeps }) job_start place bytes
+    part small refl is
 
 -- a closed replay job is spelled
 closed_spells : (h : HeadNumbers) (tally : Tally) (front : List ℕ) (says : SaysClosed h tally front)
@@ -136,9 +137,12 @@ needs_spell : (number nodes count : ℕ) (front : List ℕ) (says : SaysNeeds nu
 needs_spell number nodes count front says =
     let sites : List Site = says.sites.sites in
     let size : count ≡ length sites = omega (arith, says.sites.size) in
-    let needs_size : length says.needs + 0 ≡ length says.needs = omega arith in
+    let count_needs : ℕ = length says.needs + 0 in
+    let needs_size : count_needs ≡ length says.needs = omega arith in
     let head : List ℕ = solve_head number in
-    let behind : ℕ → ℕ → List ℕ = λ k l. head ++ (little_bytes 2 nodes ++ ((k ∷ []) ++ (flat_map site_bytes sites ++ ((l ∷ []) ++ flat_map need_bytes says.needs)))) in
+    let first : List ℕ = flat_map site_bytes sites in
+    let last : List ℕ = flat_map need_bytes says.needs in
+    let behind : ℕ → ℕ → List ℕ = λ k l. head ++ (little_bytes 2 nodes ++ ((k ∷ []) ++ (first ++ ((l ∷ []) ++ last)))) in
     record {
       within =
           record {
@@ -158,8 +162,8 @@ needs_spell number nodes count front says =
           };
       parts =
           says.parts ∙ joined says.sites.head.parts refl
-          ∙ append_assoc head (little_bytes 2 nodes ++ ((count ∷ []) ++ flat_map site_bytes sites)) (((length says.needs + 0) ∷ []) ++ flat_map need_bytes says.needs)
-          ∙ ap (λ (k : ℕ). behind k (length says.needs + 0)) size
+          ∙ append_assoc head (little_bytes 2 nodes ++ ((count ∷ []) ++ first)) ((count_needs ∷ []) ++ last)
+          ∙ ap (λ (k : ℕ). behind k count_needs) size
           ∙ ap (λ (k : ℕ). behind (length sites) k) needs_size;
     }
 

@@ -120,7 +120,8 @@ need_push {number} {nodes} {count} {left} {load} {hops} {via} {front} says none 
       few = omega (arith, before.few, push, says.begun.some_left);
       parts =
           (says.parts ∙ joined (says.begun.parts ∙ joined before.parts refl) refl)
-          ∙ append_assoc (before.short ++ ((total ∷ []) ++ bytes)) (little_bytes 2 load) (((length via + hops) ∷ []) ++ via)
+          ∙ append_assoc (before.short ++ ((total ∷ []) ++ bytes)) (little_bytes 2 load)
+          (((length via + hops) ∷ []) ++ via)
           ∙ append_assoc before.short ((total ∷ []) ++ bytes) (tail (length via + hops))
           ∙ ap (λ (size : ℕ). before.short ++ ((total ∷ []) ++ (bytes ++ tail size))) (omega (arith, none))
           ∙ ap (λ (l : List ℕ). before.short ++ ((total ∷ []) ++ l)) (flat_push need_bytes before.needs need)
@@ -150,7 +151,8 @@ unfolding has_site
 named_once via site new distinct =
     all_pairs_push (λ a b. a ≢ b) via site distinct
     (λ k d there same.
-    let named : list_any (λ s. s == site) via ≡ true = list_any_at (λ s. s == site) via k d there (eq-eqb _ site same) in
+    let named : list_any (λ s. s == site) via ≡ true =
+    list_any_at (λ s. s == site) via k d there (eq-eqb _ site same) in
     absurd (cc))
 
 -- a number of a via more
@@ -179,14 +181,16 @@ hop_keeps : (n : SolveNumbers) (site : ℕ) (front field : List ℕ) → SaysSte
     → (nat_lt site n.sites && not (has_site n.via site)) ≡ true → Says (behind_hop n site) (front ++ field)
 hop_keeps n site front field (some, says) is right =
     let parts = and_parts (nat_lt site n.sites) (not (has_site n.via site)) right in
-    let more : SaysVia n.job n.nodes n.sites n.needs_left n.load (n.via ++ site ∷ []) (n.hops_left - 1) (front ++ field) =
+    let via : List ℕ = n.via ++ site ∷ [] in
+    let more : SaysVia n.job n.nodes n.sites n.needs_left n.load via (n.hops_left - 1) (front ++ field) =
     via_push says some site field is (ltb-true site n.sites parts.0) (not_back _ parts.1) in
     let free : SolveNumbers = record n { load = 0; via = []; hops_left = 0 } in
     cond_both (nat_le n.hops_left 1) (behind_need free)
-    (Solve solves.Hop (record n { via = n.via ++ site ∷ []; hops_left = n.hops_left - 1 }))
+    (Solve solves.Hop (record n { via = via; hops_left = n.hops_left - 1 }))
     (λ p. Says p (front ++ field))
     (λ last. need_keeps free n.needs_left (front ++ field) refl more.begun.some_left
-    (need_push more (omega (arith, some, leb-true n.hops_left 1 last)) (omega (arith, length-append n.via (site ∷ [])))))
+    (need_push more (omega (arith, some, leb-true n.hops_left 1 last))
+    (omega (arith, length-append n.via (site ∷ [])))))
     (λ last. let left : 1 < n.hops_left = grind (arith, nat_tests) in (omega (arith, left), more))
 
 pub solve_keeps : (step : SolveStep) (n : SolveNumbers) (t : Place) (front field : List ℕ)
@@ -239,7 +243,8 @@ solve_keeps solves.Needs n t front field small says size ok =
     )) ok
 solve_keeps solves.Load n t front field small (some, says) size ok =
     let load : ℕ = little_number 2 field in
-    right_led (λ p. Says p (front ++ field)) (nat_le 1 load) faults.Shape (Solve solves.Hops (record n { load = load })) t
+    right_led (λ p. Says p (front ++ field)) (nat_le 1 load) faults.Shape
+    (Solve solves.Hops (record n { load = load })) t
     (λ is. record {
       short = front;
       needs = says;

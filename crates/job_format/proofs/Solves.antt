@@ -20,7 +20,7 @@ use Rattle.job_format.specs.declared.place.Place.TheVariants.{Solve, SolveEnd}
 use Rattle.job_format.specs.declared.place.SolveNumbers.{SolveNumbers}
 use Rattle.job_format.specs.declared.place.SolveStep.TheVariants as solves
 use Rattle.job_format.proofs.Heads.{judged_2}
-use Rattle.job_format.proofs.Walks.{Walks, chain, ending, field, giving, right, stays}
+use Rattle.job_format.proofs.Walks.{Passes, Walks, chain, ending, field, giving, right, stays}
 
 pub counted_from : (limit n : ℕ) → 1 ≤ n → n ≤ limit → is_counted limit n ≡ true
 counted_from limit n some few = and_from _ _ (le-leb 1 n some) (le-leb n limit few)
@@ -31,7 +31,7 @@ more_left {X} left last more some = ap (λ (b : Bool). cond b last more) (lt-leb
 
 -- the nodes and the number of sites
 pub nodes_walks : (n : SolveNumbers) (nodes : ℕ) → 1 ≤ nodes → nodes ≤ 4096
-    → Walks (Solve solves.Nodes n) (little_bytes 2 nodes) (Solve solves.Sites (record n { nodes = nodes })) [] [] []
+    → Passes (Solve solves.Nodes n) (little_bytes 2 nodes) (Solve solves.Sites (record n { nodes = nodes }))
 unfolding judge_place item_gives site_gives need_gives
 nodes_walks n nodes some few =
     field (Solve solves.Nodes n) (Solve solves.Sites (record n { nodes = nodes })) (little_bytes 2 nodes) refl
@@ -39,14 +39,16 @@ nodes_walks n nodes some few =
     (counted_from 4096 nodes some few))
 
 pub count_walks : (n : SolveNumbers) (count : ℕ) → 1 ≤ count → count ≤ 32
-    → Walks (Solve solves.Sites n) (count ∷ []) (Solve solves.Site (record n { sites = count; sites_left = count })) [] [] []
+    → Passes (Solve solves.Sites n) (count ∷ []) (Solve solves.Site (record n { sites = count; sites_left = count }))
 unfolding judge_place item_gives site_gives need_gives
 count_walks n count some few =
     field (Solve solves.Sites n) (Solve solves.Site (record n { sites = count; sites_left = count })) (count ∷ []) refl
     (right (is_counted 32 count) faults.Shape _ (counted_from 32 count some few))
 
-same_site : (a b c d e f : ℕ) → a ≡ d → b ≡ e → c ≡ f
-    → ◌≡◌ {A = List Site} (record { capacity = a; opening = b; unit = c } ∷ []) (record { capacity = d; opening = e; unit = f } ∷ [])
+abbrev one_site : ℕ → ℕ → ℕ → List Site
+one_site capacity opening unit = record { capacity = capacity; opening = opening; unit = unit } ∷ []
+
+same_site : (a b c d e f : ℕ) → a ≡ d → b ≡ e → c ≡ f → one_site a b c ≡ one_site d e f
 same_site a b c d e f p q r = λ x. record { capacity = p x; opening = q x; unit = r x } ∷ []
 
 site_walks : (n : SolveNumbers) (site : Site) → IsSite site
@@ -63,14 +65,15 @@ pub sites_walk : (n : SolveNumbers) (sites : List Site) (site : Site) → AllByR
 sites_walk n [] site (is, none) = chain (site_walks (record n { sites_left = 1 }) site is) (stays _)
 sites_walk n (next ∷ sites) site (is, each) =
     let left : ℕ = length (next ∷ sites) in
+    let last : Place = Solve solves.Needs (record n { sites_left = 0 }) in
+    let more : ℕ → Place = λ k. Solve solves.Site (record n { sites_left = k }) in
     chain
     (ending (site_walks (record n { sites_left = suc left }) site is)
-    (more_left left (Solve solves.Needs (record n { sites_left = 0 })) (Solve solves.Site (record n { sites_left = suc left - 1 }))
-    (omega arith) ∙ ap (λ (k : ℕ). Solve solves.Site (record n { sites_left = k })) (omega arith)))
+    (more_left left last (more (suc left - 1)) (omega arith) ∙ ap more (omega arith)))
     (sites_walk n sites next each)
 
 pub needs_count_walks : (n : SolveNumbers) (count : ℕ) → 1 ≤ count → count ≤ 64
-    → Walks (Solve solves.Needs n) (count ∷ []) (Solve solves.Load (record n { needs_left = count })) [] [] []
+    → Passes (Solve solves.Needs n) (count ∷ []) (Solve solves.Load (record n { needs_left = count }))
 unfolding judge_place item_gives site_gives need_gives
 needs_count_walks n count some few =
     field (Solve solves.Needs n) (Solve solves.Load (record n { needs_left = count })) (count ∷ []) refl
@@ -92,11 +95,11 @@ module _ (n : SolveNumbers) where
   reading needs load via hops = record n { needs_left = needs; load = load; via = via; hops_left = hops }
 
   hop_walks : (needs load : ℕ) (via : List ℕ) (hops site : ℕ) → site < n.sites → has_site via site ≡ false
-      → Walks (Solve solves.Hop (reading needs load via hops)) (site ∷ []) (behind_hop (reading needs load via hops) site)
-      [] [] (need_by (reading needs load via hops) site)
+      → Walks (Solve solves.Hop (reading needs load via hops)) (site ∷ [])
+      (behind_hop (reading needs load via hops) site) [] [] (need_by (reading needs load via hops) site)
   unfolding judge_place item_gives site_gives need_gives
   hop_walks needs load via hops site known new =
-      field (Solve solves.Hop (reading needs load via hops)) (behind_hop (reading needs load via hops) site) (site ∷ []) refl
+      field (Solve solves.Hop (reading needs load via hops)) _ (site ∷ []) refl
       (right (nat_lt site n.sites && not (has_site via site)) faults.Shape _
       (and_from _ _ (lt-ltb site n.sites known) (not_from_false _ new)))
 
@@ -130,7 +133,8 @@ module _ (n : SolveNumbers) where
   via_walks needs load (site ∷ rest) some few known distinct =
       let hops : ℕ = length (site ∷ rest) in
       chain
-      (field (Solve solves.Hops (reading needs load [] 0)) (Solve solves.Hop (reading needs load [] hops)) (hops ∷ []) refl
+      (field (Solve solves.Hops (reading needs load [] 0)) (Solve solves.Hop (reading needs load [] hops))
+      (hops ∷ []) refl
       (right (is_counted 8 hops) faults.Shape _ (counted_from 8 hops some few)))
       (hops_walk needs load rest [] site (recursion_from_All (λ s. s < n.sites) (site ∷ rest) known) distinct)
 

@@ -1,13 +1,13 @@
 -- What a spelling of a job leads to.
 use Rattle.std.proofs.Common.{◌≡◌, ◌≤◌, ℕ, ◌+◌, List, [], ◌∷◌, ◌++◌, length, All, refl, sym, ◌∙◌, ap, subst, arith, append-nil}
-use Rattle.std.specs.List.{flat_map}
 use Rattle.std.proofs.lemmas.List.Elements.{recursion_from_All}
 use Rattle.bound_certificate.specs.Limits.{IsNeed, IsWithin}
 use Rattle.bound_certificate.specs.declared.need.Need.{Need}
 use Rattle.bound_certificate.specs.declared.site.Site.{Site}
 use Rattle.byteorder.specs.Endian.{little_bytes}
 use Rattle.byte_format.specs.Format.{At, reached}
-use Rattle.job_format.specs.Job.{IsItem, IsLoad, IsSite, IsSolveJob, Job, Replay, Solve as SolveIt, ReplayJob, SolveJob, SpellsJob, SpellsReplay, SpellsSolve, frame_bytes, problem_bytes, weight_of}
+use Rattle.byte_format.proofs.Numbers.{number_4}
+use Rattle.job_format.specs.Job.{IsItem, IsLoad, IsSite, IsSolveJob, Job, Replay, Solve as SolveIt, ReplayJob, SolveJob, SpellsJob, SpellsReplay, SpellsSolve, problem_bytes, weight_of}
 use Rattle.job_format.specs.Places.{job_format, job_start, solve_start}
 use Rattle.job_format.specs.Read.{IsWhole}
 use Rattle.job_format.specs.declared.item.Item.{Item}
@@ -18,9 +18,9 @@ use Rattle.job_format.specs.declared.place.SolveNumbers.{SolveNumbers}
 use Rattle.job_format.specs.declared.place.SolveStep.TheVariants as solves
 use Rattle.job_format.specs.declared.place.Tally.{Tally}
 use Rattle.job_format.proofs.Frames.{all_of, close_walks, frames_walk}
-use Rattle.job_format.proofs.Heads.{no_items, numbers_of, replay_head_walks, solve_head_walks}
+use Rattle.job_format.proofs.Heads.{no_items, numbers_of, read_back, replay_head_walks, solve_head_walks}
 use Rattle.job_format.proofs.Solves.{count_walks, needs_count_walks, needs_walk, nodes_walks, sites_walk}
-use Rattle.job_format.proofs.Walks.{Walks, chain, giving, starting}
+use Rattle.job_format.proofs.Walks.{Walks, chain, ending, giving, starting}
 
 -- a spelling of a replay job
 replay_walks : (job : ReplayJob) (bytes : List ℕ) → SpellsReplay job bytes
@@ -31,14 +31,16 @@ replay_walks job bytes spells =
     let h : HeadNumbers = numbers_of job.number job.setting in
     let tally : Tally = record { items = length job.items; weight = weight_of job.items } in
     let all : all_of spells.frames ≡ job.items = spells.framed.all in
-    let frames : Walks (Count h no_items) (flat_map frame_bytes spells.frames) (Count h tally) (all_of spells.frames) [] [] =
+    let frames =
     frames_walk h spells.frames no_items (length job.items) (weight_of job.items) spells.framed.each spells.framed.full
     (subst (λ (l : List Item). All IsItem l) (sym all) spells.within.each) refl
     (ap (λ (l : List Item). 0 + length l) all ∙ omega arith) spells.within.few
     (ap (λ (l : List Item). 0 + weight_of l) all ∙ omega arith) spells.within.light in
+    let number : Count (numbers_of (read_back job.number) job.setting) no_items ≡ Count h no_items =
+    ap (λ (n : ℕ). Count (numbers_of n job.setting) no_items) (number_4 job.number spells.within.number) in
     starting
     (giving
-    (chain (replay_head_walks job.number job.setting spells.within.number spells.within.setting)
+    (chain (ending (replay_head_walks job.number job.setting spells.within.setting) number)
     (chain frames (close_walks h tally))) (append-nil (all_of spells.frames) ∙ all) refl refl) spells.parts
 
 -- the numbers behind a whole problem
@@ -78,8 +80,10 @@ solve_walks : (job : SolveJob) (bytes : List ℕ) → SpellsSolve job bytes
     job.problem.needs
 solve_walks job bytes spells =
     let is : IsSolveJob job = spells.within in
+    let number : Solve solves.Nodes (solve_start (read_back job.number)) ≡ Solve solves.Nodes (solve_start job.number) =
+    ap (λ (n : ℕ). Solve solves.Nodes (solve_start n)) (number_4 job.number is.number) in
     starting
-    (chain (solve_head_walks job.number is.number)
+    (chain (ending (solve_head_walks job.number) number)
     (problem_walks job.number job.nodes job.problem.sites job.problem.needs is.some is.few is.within is.sites is.loads))
     spells.parts
 
@@ -96,7 +100,8 @@ spelled_on (Replay job) bytes spells =
     let walks = replay_walks job bytes spells in (
       ReplayEnd (numbers_of job.number job.setting) (record { items = length job.items; weight = weight_of job.items }),
       walks.leads,
-      ap (λ (l : List Item). Replay (record { number = job.number; setting = job.setting; items = l })) (sym walks.gives_items),
+      ap (λ (l : List Item). Replay (record { number = job.number; setting = job.setting; items = l }))
+          (sym walks.gives_items),
     )
 spelled_on (SolveIt job) bytes spells =
     let walks = solve_walks job bytes spells in (

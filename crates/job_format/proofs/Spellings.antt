@@ -30,8 +30,9 @@ some_spelling (SolveIt job) is = (_, record { within = is; parts = refl })
 -- in one way
 pub same_spelling : (job : Job) (bytes other : List ℕ) → SpellsJob job bytes → SpellsJob job other → bytes ≡ other
 same_spelling (Replay job) bytes other spells also =
+    let head : List ℕ = replay_head job.number job.setting in
     spells.parts
-    ∙ ap (λ (frames : List (List Item)). replay_head job.number job.setting ++ (flat_map frame_bytes frames ++ little_bytes 2 0))
+    ∙ ap (λ (frames : List (List Item)). head ++ (flat_map frame_bytes frames ++ little_bytes 2 0))
     (frames_one spells.frames also.frames job.items spells.framed also.framed)
     ∙ sym also.parts
 same_spelling (SolveIt job) bytes other spells also = spells.parts ∙ sym also.parts
@@ -57,7 +58,8 @@ end_extra place byte bytes end =
     ∙ reached-broken job_format Extra bytes
 
 -- no spelling goes on as another
-pub no_longer : (job other : Job) (bytes rest : List ℕ) → SpellsJob job bytes → SpellsJob other (bytes ++ rest) → rest ≡ []
+pub no_longer : (job other : Job) (bytes rest : List ℕ) → SpellsJob job bytes → SpellsJob other (bytes ++ rest)
+    → rest ≡ []
 no_longer job other bytes [] spells also = refl
 no_longer job other bytes (byte ∷ rest) spells also =
     let on = spelled_on job bytes spells in
@@ -83,5 +85,6 @@ reading_at bytes small (At place part) is = elim (cases_Bool (is_end place)) [
 ]
 
 -- all bytes are read as something
-pub some_reading : (bytes : List ℕ) → All (λ byte. byte < 256) bytes → (read : Result Job JobFault) × ReadsJob bytes read
+pub some_reading : (bytes : List ℕ) → All (λ byte. byte < 256) bytes
+    → (read : Result Job JobFault) × ReadsJob bytes read
 some_reading bytes small = reading_at bytes small (reached job_format (At job_start []) bytes) refl

@@ -12,14 +12,19 @@ use Rattle.job_format.specs.declared.item.Item.{Item}
 use Rattle.job_format.specs.declared.place.Place.{Place}
 use Rattle.job_format.proofs.Fields.{job_takes}
 
-pub record Walks (s : Place) (bytes : List ℕ) (t : Place) (items : List Item) (sites : List Site) (needs : List Need) : Type 0 where
+pub record Walks (s : Place) (bytes : List ℕ) (t : Place) (items : List Item) (sites : List Site) (needs : List Need)
+    : Type 0 where
   pub leads : reached job_format (At s []) bytes ≡ At t []
   pub gives_items : yields job_format item_gives (At s []) bytes ≡ items
   pub gives_sites : yields job_format site_gives (At s []) bytes ≡ sites
   pub gives_needs : yields job_format need_gives (At s []) bytes ≡ needs
 
+-- and which give nothing
+abbrev pub Passes : Place → List ℕ → Place → Type 0
+Passes s bytes t = Walks s bytes t [] [] []
+
 -- no bytes
-pub stays : (s : Place) → Walks s [] s [] [] []
+pub stays : (s : Place) → Passes s [] s
 unfolding reached yields
 stays s = record { leads = refl; gives_items = refl; gives_sites = refl; gives_needs = refl }
 
