@@ -1,7 +1,7 @@
 -- What holds of every format: one outcome, and the same for every cutting.
-use Rattle.std.proofs.Common.{◌≡◌, ◌<◌, ℕ, ◌+◌, List, [], ◌∷◌, ◌++◌, length, Result, Ok, Err, refl, sym, ◌∙◌, ap, subst, arith, append_assoc, append-nil, length-append, inl, inr, All}
+use Rattle.std.proofs.Common.{◌≡◌, ◌<◌, ℕ, ◌+◌, ◌==◌, List, [], ◌∷◌, ◌++◌, length, Result, Ok, Err, refl, sym, ◌∙◌, ap, subst, arith, append_assoc, append-nil, length-append, inl, inr, All}
 use Rattle.std.specs.List.{concat}
-use Rattle.std.proofs.lemmas.Bool.{cases_lt}
+use Rattle.std.proofs.lemmas.Bool.{cases_lt, cond_both}
 use Rattle.std.proofs.lemmas.Bool.Decides.{nat_tests}
 use Rattle.byte_format.specs.Format.{Format, Stand, EndsInside, Breaks, Reached, At, Broken, judged, onward, reached}
 use Rattle.byte_format.proofs.Lists.{all_left, all_right}
@@ -217,4 +217,38 @@ reached_says_of g Is Says takes keeps start place bytes part each says is =
     let ends : EndsInside g start bytes place part =
     subst (λ r. Leads g start bytes r) is (leads g takes start bytes) in
     let parted : All Is (concat ends.fields ++ part) = subst (λ (l : List ℕ). All Is l) ends.parts each in
-    (concat ends.fields, (ends.parts, stand_says_of g Is Says keeps start place ends.fields part [] parted ends.stand says))
+    let front = stand_says_of g Is Says keeps start place ends.fields part [] parted ends.stand says in
+    (concat ends.fields, (ends.parts, front))
+
+-- what holds of a place that is reached; of a fault nothing
+abbrev KeptAt : {S F : Type 0} → (S → Type 0) → Reached S F → Type 0
+KeptAt Is (At place part) = Is place
+KeptAt Is (Broken fault) = Unit {0}
+
+kept_judged : {S F : Type 0} (Is : S → Type 0) (r : Result S F) → ((t : S) → r ≡ Ok t → Is t) → KeptAt Is (judged r)
+kept_judged Is (Ok t) on = on t refl
+kept_judged Is (Err fault) on = tt
+
+kept_onward : {S F : Type 0} (g : Format S F) (Is : S → Type 0)
+    → ((s t : S) (field : List ℕ) → Is s → g.judge s field ≡ Ok t → Is t) → (now : Reached S F) (b : ℕ)
+    → KeptAt Is now → KeptAt Is (onward g now b)
+unfolding onward
+kept_onward g Is on (Broken fault) b is = tt
+kept_onward {S} {F} g Is on (At place part) b is =
+    let full : Reached S F = judged (g.judge place (part ++ b ∷ [])) in
+    cond_both (length part + 1 == g.size place) full (At place (part ++ b ∷ [])) (λ r. KeptAt Is r)
+    (λ e. kept_judged Is (g.judge place (part ++ b ∷ [])) (λ t ok. on place t (part ++ b ∷ []) is ok)) (λ e. is)
+
+kept_more : {S F : Type 0} (g : Format S F) (Is : S → Type 0)
+    → ((s t : S) (field : List ℕ) → Is s → g.judge s field ≡ Ok t → Is t) → (now : Reached S F) (more : List ℕ)
+    → KeptAt Is now → KeptAt Is (reached g now more)
+unfolding reached
+kept_more g Is on now [] is = is
+kept_more g Is on now (b ∷ more) is = kept_more g Is on (onward g now b) more (kept_onward g Is on now b is)
+
+-- what each field keeps of a place holds of every place that is reached from there
+pub reached_keeps : {S F : Type 0} (g : Format S F) (Is : S → Type 0)
+    → ((s t : S) (field : List ℕ) → Is s → g.judge s field ≡ Ok t → Is t) → (s t : S) (part more rest : List ℕ) → Is s
+    → reached g (At s part) more ≡ At t rest → Is t
+reached_keeps g Is on s t part more rest is leads =
+    subst (λ r. KeptAt Is r) leads (kept_more g Is on (At s part) more is)

@@ -20,7 +20,8 @@ words_read a b c d e f g h i j k pa pb pc pd pe pf pg ph pi pj pk =
 -- eleven words of four bytes are read back
 pub key_read : (key : List ℕ) → length key ≡ 11 → AllByRecursion (λ word. word < 2 ^ 32) key
     → key_words (key_bytes key) ≡ key
-key_read (a ∷ b ∷ c ∷ d ∷ e ∷ f ∷ g ∷ h ∷ i ∷ j ∷ k ∷ []) size (pa, (pb, (pc, (pd, (pe, (pf, (pg, (ph, (pi, (pj, (pk, n))))))))))) =
+key_read (a ∷ b ∷ c ∷ d ∷ e ∷ f ∷ g ∷ h ∷ i ∷ j ∷ k ∷ []) size
+    (pa, (pb, (pc, (pd, (pe, (pf, (pg, (ph, (pi, (pj, (pk, none))))))))))) =
     words_read a b c d e f g h i j k pa pb pc pd pe pf pg ph pi pj pk
 key_read key size each = absurd (omega (arith, size))
 

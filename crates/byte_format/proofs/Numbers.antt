@@ -25,18 +25,23 @@ fits_2 bytes small = omega (arith, byte_small bytes small 0, byte_small bytes sm
 
 pub fits_4 : (bytes : List ℕ) → All (λ byte. byte < 256) bytes → little_number 4 bytes < 2 ^ 32
 fits_4 bytes small =
-    omega (arith, byte_small bytes small 0, byte_small bytes small 1, byte_small bytes small 2, byte_small bytes small 3)
+    let s : (i : ℕ) → get_or bytes i 0 < 256 = byte_small bytes small in
+    omega (arith, s 0, s 1, s 2, s 3)
 
 pub fits_8 : (bytes : List ℕ) → All (λ byte. byte < 256) bytes → little_number 8 bytes < 2 ^ 64
 fits_8 bytes small =
-    omega (arith, byte_small bytes small 0, byte_small bytes small 1, byte_small bytes small 2, byte_small bytes small 3, byte_small bytes small 4, byte_small bytes small 5, byte_small bytes small 6, byte_small bytes small 7)
+    let s : (i : ℕ) → get_or bytes i 0 < 256 = byte_small bytes small in
+    omega (arith, s 0, s 1, s 2, s 3, s 4, s 5, s 6, s 7)
 
 -- bytes back from their number
-pub bytes_2 : (bytes : List ℕ) → length bytes ≡ 2 → All (λ byte. byte < 256) bytes → little_bytes 2 (little_number 2 bytes) ≡ bytes
+pub bytes_2 : (bytes : List ℕ) → length bytes ≡ 2 → All (λ byte. byte < 256) bytes
+    → little_bytes 2 (little_number 2 bytes) ≡ bytes
 bytes_2 bytes size small = le_bytes_2 bytes (little_number 2 bytes) size (byte_small bytes small) (omega arith)
 
-pub bytes_4 : (bytes : List ℕ) → length bytes ≡ 4 → All (λ byte. byte < 256) bytes → little_bytes 4 (little_number 4 bytes) ≡ bytes
+pub bytes_4 : (bytes : List ℕ) → length bytes ≡ 4 → All (λ byte. byte < 256) bytes
+    → little_bytes 4 (little_number 4 bytes) ≡ bytes
 bytes_4 bytes size small = le_bytes_4 bytes (little_number 4 bytes) size (byte_small bytes small) (omega arith)
 
-pub bytes_8 : (bytes : List ℕ) → length bytes ≡ 8 → All (λ byte. byte < 256) bytes → little_bytes 8 (little_number 8 bytes) ≡ bytes
+pub bytes_8 : (bytes : List ℕ) → length bytes ≡ 8 → All (λ byte. byte < 256) bytes
+    → little_bytes 8 (little_number 8 bytes) ≡ bytes
 bytes_8 bytes size small = le_bytes_8 bytes (little_number 8 bytes) size (byte_small bytes small) (omega arith)

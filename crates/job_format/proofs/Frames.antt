@@ -69,15 +69,15 @@ items_walk : (h : HeadNumbers) (items : List Item) (item : Item) (tally : Tally)
     → AllByRecursion IsItem (item ∷ items) → tally.weight + weight_of (item ∷ items) ≡ weight → weight ≤ weight_limit
     → Walks (Key h tally (length (item ∷ items))) (flat_map item_bytes (item ∷ items)) (Count h (weighed tally weight))
     (item ∷ items) [] []
-items_walk h [] item tally weight (is, none) sum light =
-    ending (chain (item_walks h tally 1 item is (omega (arith, sum, light))) (stays _))
-    (ap (λ (n : ℕ). Count h (weighed tally n)) (omega (arith, sum)))
-items_walk h (next ∷ items) item tally weight (is, each) sum light =
+items_walk h [] item tally weight (is, none) adds light =
+    ending (chain (item_walks h tally 1 item is (omega (arith, adds, light))) (stays _))
+    (ap (λ (n : ℕ). Count h (weighed tally n)) (omega (arith, adds)))
+items_walk h (next ∷ items) item tally weight (is, each) adds light =
     let parts = weight_cons item (next ∷ items) in
     chain
-    (ending (item_walks h tally (suc (suc (length items))) item is (omega (arith, sum, light)))
+    (ending (item_walks h tally (suc (suc (length items))) item is (omega (arith, adds, light)))
     (behind_more h (with_weight tally item.weight) (suc (length items)) (omega arith)))
-    (items_walk h items next (with_weight tally item.weight) weight each (omega (arith, sum)) light)
+    (items_walk h items next (with_weight tally item.weight) weight each (omega (arith, adds)) light)
 
 -- what a count is judged as
 abbrev judged_count : HeadNumbers → Tally → ℕ → Result Place JobFault
@@ -110,11 +110,11 @@ frame_walks : (h : HeadNumbers) (tally : Tally) (frame : List Item) (weight : �
     → tally.weight + weight_of frame ≡ weight → weight ≤ weight_limit
     → Walks (Count h tally) (frame_bytes frame)
     (Count h (record { items = tally.items + length frame; weight = weight })) frame [] []
-frame_walks h tally [] weight is each full room sum light = absurd (omega (arith, is))
-frame_walks h tally (item ∷ items) weight is each full room sum light =
+frame_walks h tally [] weight is each full room adds light = absurd (omega (arith, is))
+frame_walks h tally (item ∷ items) weight is each full room adds light =
     let count : ℕ = length (item ∷ items) in
     chain (count_walks h tally count is.0 is.1 full room)
-    (items_walk h items item (with_frame tally count) weight each sum light)
+    (items_walk h items item (with_frame tally count) weight each adds light)
 
 -- the items of frames
 abbrev pub all_of : List (List Item) → List Item
@@ -150,13 +150,13 @@ frames_walk h (frame ∷ next ∷ frames) tally count weight (is, are) (whole, f
     let rest : List Item = all_of (next ∷ frames) in
     let size = length-append frame rest in
     let parts = weight_append frame rest in
+    let heavier : ℕ = tally.weight + weight_of frame in
+    let on : Tally = record { items = tally.items + length frame; weight = heavier } in
     chain
-    (frame_walks h tally frame (tally.weight + weight_of frame) is
-    (recursion_from_All IsItem frame (all_left IsItem frame rest each)) even
+    (frame_walks h tally frame heavier is (recursion_from_All IsItem frame (all_left IsItem frame rest each)) even
     (omega (arith, is, counted, few, size)) refl (omega (arith, parts, weighs, light)))
-    (frames_walk h (next ∷ frames)
-    (record { items = tally.items + length frame; weight = tally.weight + weight_of frame }) count weight are full (all_right IsItem frame rest each) (omega (arith, even, whole))
-    (omega (arith, size, counted)) few (omega (arith, parts, weighs)) light)
+    (frames_walk h (next ∷ frames) on count weight are full (all_right IsItem frame rest each)
+    (omega (arith, even, whole)) (omega (arith, size, counted)) few (omega (arith, parts, weighs)) light)
 
 -- a count of 0
 pub close_walks : (h : HeadNumbers) (tally : Tally) → Passes (Count h tally) (little_bytes 2 0) (ReplayEnd h tally)

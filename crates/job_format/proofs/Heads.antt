@@ -46,7 +46,7 @@ number_walks : (h : HeadNumbers) (number : ℕ)
     → Passes (Head steps.Number h) (little_bytes 4 number) (behind_number (record h { job = read_back number }) h.kind)
 unfolding judge_place item_gives site_gives need_gives
 number_walks h number =
-    field (Head steps.Number h) (behind_number (record h { job = read_back number }) h.kind) (little_bytes 4 number) refl refl
+    field (Head steps.Number h) _ (little_bytes 4 number) refl refl
 
 -- the numbers of a head
 abbrev pub numbers_of : ℕ → Setting → HeadNumbers

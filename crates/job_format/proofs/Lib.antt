@@ -1,11 +1,12 @@
 pub mod Fields
 mod FrameFronts
 mod Frames
-mod Framing
+pub mod Framing
 pub mod Fronts
 mod HeadFronts
 pub mod Heads
 pub mod Judged
+pub mod KnownHeads
 pub mod Reading
 pub mod Says
 mod Settings

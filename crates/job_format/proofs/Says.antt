@@ -86,6 +86,19 @@ begins_so (ReplayEnd h tally) front says = (_, replay_more says.frames.head (lit
 begins_so (Solve step n) front says = let begins = step_begins step n front says in (begins.more, begins.head)
 begins_so (SolveEnd n) front says = let begins = needs_begin says in (begins.more, begins.head)
 
+-- bytes behind them change nothing of it
+begins_more : (place : Place) (front bytes part : List ℕ) → bytes ≡ front ++ part → BeginsSo place front
+    → BeginsSo place bytes
+begins_more (Head step h) front bytes part parts begins = tt
+begins_more (Count h tally) front bytes part parts (more, head) = (_, replay_more head part parts)
+begins_more (Key h tally left) front bytes part parts (more, head) = (_, replay_more head part parts)
+begins_more (Weight h tally left key) front bytes part parts (more, head) = (_, replay_more head part parts)
+begins_more (ReplayEnd h tally) front bytes part parts (more, head) = (_, replay_more head part parts)
+begins_more (Solve step n) front bytes part parts (more, head) =
+    let begins = solve_more (record { more = more; head = head }) part parts in (begins.more, begins.head)
+begins_more (SolveEnd n) front bytes part parts (more, head) =
+    let begins = solve_more (record { more = more; head = head }) part parts in (begins.more, begins.head)
+
 -- each field that stands keeps it
 field_keeps : (s t : Place) (front field : List ℕ) → All (λ byte. byte < 256) field → Says s front
     → length field ≡ place_size s → judge_place s field ≡ Ok t → Says t (front ++ field)
@@ -140,9 +153,10 @@ needs_spell number nodes count front says =
     let count_needs : ℕ = length says.needs + 0 in
     let needs_size : count_needs ≡ length says.needs = omega arith in
     let head : List ℕ = solve_head number in
+    let node_bytes : List ℕ = little_bytes 2 nodes in
     let first : List ℕ = flat_map site_bytes sites in
     let last : List ℕ = flat_map need_bytes says.needs in
-    let behind : ℕ → ℕ → List ℕ = λ k l. head ++ (little_bytes 2 nodes ++ ((k ∷ []) ++ (first ++ ((l ∷ []) ++ last)))) in
+    let behind : ℕ → ℕ → List ℕ = λ k l. head ++ (node_bytes ++ ((k ∷ []) ++ (first ++ ((l ∷ []) ++ last)))) in
     record {
       within =
           record {
@@ -162,10 +176,17 @@ needs_spell number nodes count front says =
           };
       parts =
           says.parts ∙ joined says.sites.head.parts refl
-          ∙ append_assoc head (little_bytes 2 nodes ++ ((count ∷ []) ++ first)) ((count_needs ∷ []) ++ last)
+          ∙ append_assoc head (node_bytes ++ ((count ∷ []) ++ first)) ((count_needs ∷ []) ++ last)
           ∙ ap (λ (k : ℕ). behind k count_needs) size
           ∙ ap (λ (k : ℕ). behind (length sites) k) needs_size;
     }
+
+-- where bytes lead to a place behind a head, they begin with that head
+pub head_begins : (place : Place) (bytes part : List ℕ) → All (λ byte. byte < 256) bytes
+    → reached job_format (At job_start []) bytes ≡ At place part → BeginsSo place bytes
+head_begins place bytes part small is =
+    let (front, (parts, says)) = place_says place bytes part small is in
+    begins_more place front bytes part parts (begins_so place front says)
 
 -- bytes that lead to an end spell a job
 pub end_spells : (place : Place) (bytes : List ℕ) → is_end place ≡ true → Says place bytes
