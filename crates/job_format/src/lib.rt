@@ -14,11 +14,13 @@
 mod fault;
 mod item;
 mod job;
+mod laws;
 mod place;
 mod via;
 
 pub use fault::JobFault;
 pub use item::Item;
 pub use job::Job;
+pub use laws::{one_reading, one_spelling};
 pub use place::{HeadNumbers, HeadStep, Kind, Place, SolveNumbers, SolveStep, Tally};
 pub use via::Via;
