@@ -1,8 +1,16 @@
+pub mod CounterOn
+pub mod Counters
+pub mod HeapBytes
+pub mod HeapOn
+pub mod Judged
+pub mod Limits
+pub mod Numbers
 pub mod OneRead
 pub mod ReplayBack
 pub mod ReplayFaults
 pub mod ReplayFields
 pub mod ReplayOn
+pub mod Rows
 pub mod SolveBack
 pub mod SolveFaults
 pub mod SolveOn
