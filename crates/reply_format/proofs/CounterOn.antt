@@ -38,7 +38,7 @@ nonzero-zero c row none =
     let one : (if not (int_eq c (pos 0)) then 1 else 0) ≡ 0 = ap (λ (b : Bool). if not b then 1 else 0) none in
     step ∙ ap (λ (n : ℕ). n + nonzero_count row) one ∙ omega arith
 
-nonzero-none : nonzero_count [] ≡ 0
+pub nonzero-none : nonzero_count [] ≡ 0
 unfolding nonzero_count
 nonzero-none = refl
 
@@ -54,11 +54,11 @@ unfolding entries_bytes
 entries-zero bucket c row none =
     ap (λ (b : Bool). (if b then [] else little_bytes 2 bucket ++ counter_bytes c) ++ entries_bytes (bucket + 1) row) none
 
-entries-none : (bucket : ℕ) → entries_bytes bucket [] ≡ []
+pub entries-none : (bucket : ℕ) → entries_bytes bucket [] ≡ []
 unfolding entries_bytes
 entries-none bucket = refl
 
-sparse-none : (width : ℕ) (cs : List ℤ) → sparse_bytes 0 width cs ≡ []
+pub sparse-none : (width : ℕ) (cs : List ℤ) → sparse_bytes 0 width cs ≡ []
 unfolding sparse_bytes
 sparse-none width cs = refl
 
@@ -89,11 +89,11 @@ module _ (e : ReplayHead) where
       (behind_counter e (cs ++ signed (counter_bytes c) ∷ [])) (counter_light e.weight c is)
       ∙ ap (λ (z : ℤ). Ok (behind_counter e (cs ++ z ∷ []))) (counter_signed e.weight c is)
 
-  counters_end : (cs : List ℤ) → length cs ≡ counter_count e.setting → behind_counter e cs ≡ HeapLength cs []
+  pub counters_end : (cs : List ℤ) → length cs ≡ counter_count e.setting → behind_counter e cs ≡ HeapLength cs []
   counters_end cs size =
       ap (λ (b : Bool). if b then HeapLength cs [] else Counter cs) (eq-eqb (length cs) (counter_count e.setting) size)
 
-  counters_go_on : (cs : List ℤ) → length cs < counter_count e.setting → behind_counter e cs ≡ Counter cs
+  pub counters_go_on : (cs : List ℤ) → length cs < counter_count e.setting → behind_counter e cs ≡ Counter cs
   counters_go_on cs few =
       ap (λ (b : Bool). if b then HeapLength cs [] else Counter cs)
       (ne_eqb (length cs) (counter_count e.setting) (λ all. absurd (omega (arith, all, few))))
@@ -118,11 +118,11 @@ module _ (e : ReplayHead) where
       (ap (λ (l : List ℤ). HeapLength l []) grouped)
 
   -- version 2
-  rows_end : (cs : List ℤ) → length cs ≡ counter_count e.setting → behind_row e cs ≡ HeapLength cs []
+  pub rows_end : (cs : List ℤ) → length cs ≡ counter_count e.setting → behind_row e cs ≡ HeapLength cs []
   rows_end cs size =
       ap (λ (b : Bool). if b then HeapLength cs [] else RowCount cs) (eq-eqb (length cs) (counter_count e.setting) size)
 
-  rows_go_on : (cs : List ℤ) → length cs < counter_count e.setting → behind_row e cs ≡ RowCount cs
+  pub rows_go_on : (cs : List ℤ) → length cs < counter_count e.setting → behind_row e cs ≡ RowCount cs
   rows_go_on cs few =
       ap (λ (b : Bool). if b then HeapLength cs [] else RowCount cs)
       (ne_eqb (length cs) (counter_count e.setting) (λ all. absurd (omega (arith, all, few))))
@@ -237,7 +237,7 @@ module _ (e : ReplayHead) where
       (entries_bytes 0 row ++ rest) refl (row_ok cs row within size)
       ∙ entries_on cs 0 0 row rest within each (omega (arith, size))
 
-  few_rows : (rows : ℕ) → AreWithin e.setting → rows < row_count e.setting
+  pub few_rows : (rows : ℕ) → AreWithin e.setting → rows < row_count e.setting
       → rows * e.setting.width < counter_count e.setting
   few_rows rows within few =
       omega (arith, mul-le (rows + 1) e.setting.width (row_count e.setting) e.setting.width (omega (arith, few)) (omega arith),

@@ -125,13 +125,13 @@ module _ (e : ReplayHead) where
         (length_ok heap within is)
         ∙ keys_on heap.dropped [] heap.keys rest is.each is.ascending
 
-  heaps_end : (cs : List ℤ) (heaps : List Heap) → length heaps ≡ level_count e.setting
+  pub heaps_end : (cs : List ℤ) (heaps : List Heap) → length heaps ≡ level_count e.setting
       → behind_heap e cs heaps ≡ End (record { counters = cs; heaps = heaps })
   heaps_end cs heaps size =
       ap (λ (b : Bool). if b then End (record { counters = cs; heaps = heaps }) else HeapLength cs heaps)
       (eq-eqb (length heaps) (level_count e.setting) size)
 
-  heaps_go_on : (cs : List ℤ) (heaps : List Heap) → length heaps < level_count e.setting
+  pub heaps_go_on : (cs : List ℤ) (heaps : List Heap) → length heaps < level_count e.setting
       → behind_heap e cs heaps ≡ HeapLength cs heaps
   heaps_go_on cs heaps few =
       ap (λ (b : Bool). if b then End (record { counters = cs; heaps = heaps }) else HeapLength cs heaps)

@@ -1,5 +1,6 @@
 pub mod CounterOn
 pub mod Counters
+pub mod HeapBack
 pub mod HeapBytes
 pub mod HeapOn
 pub mod Judged
@@ -10,6 +11,8 @@ pub mod ReplayBack
 pub mod ReplayFaults
 pub mod ReplayFields
 pub mod ReplayOn
+pub mod ReplaySays
+pub mod RowBack
 pub mod Rows
 pub mod SolveBack
 pub mod SolveFaults
