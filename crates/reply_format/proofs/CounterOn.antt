@@ -237,6 +237,10 @@ module _ (e : ReplayHead) where
       (entries_bytes 0 row ++ rest) refl (row_ok cs row within size)
       ∙ entries_on cs 0 0 row rest within each (omega (arith, size))
 
+  pub rows_some : AreWithin e.setting → 0 < row_count e.setting
+  rows_some within =
+      omega (arith, mul-le 1 1 (e.setting.levels + 1) e.setting.rows (omega arith) (some_rows e.setting within))
+
   pub few_rows : (rows : ℕ) → AreWithin e.setting → rows < row_count e.setting
       → rows * e.setting.width < counter_count e.setting
   few_rows rows within few =
@@ -247,13 +251,11 @@ module _ (e : ReplayHead) where
       → length cs ≡ rows * e.setting.width → All (IsCounter e.weight) cs
       → lead (RowCount []) (sparse_bytes rows e.setting.width cs ++ rest) (behind_row e cs) rest
   sparse_on zero cs rest within few size each =
-      let rows_some : 0 < row_count e.setting =
-      omega (arith, mul-le 1 1 (e.setting.levels + 1) e.setting.rows (omega arith) (some_rows e.setting within)) in
       let none : [] ≡ cs = sym (nil_from_length cs (omega (arith, size))) in
       spelled_as (RowCount []) (sparse_bytes 0 e.setting.width cs ++ rest) rest
       (ap (λ (l : List ℕ). l ++ rest) (sparse-none e.setting.width cs))
       ∙ at (RowCount []) (behind_row e []) rest
-      (sym (rows_go_on [] (omega (arith, few_rows 0 within rows_some))))
+      (sym (rows_go_on [] (omega (arith, few_rows 0 within (rows_some within)))))
       ∙ at (behind_row e []) (behind_row e cs) rest (ap (λ (l : List ℤ). behind_row e l) none)
   sparse_on (suc rows) cs rest within few size each =
       let width : ℕ = e.setting.width in
@@ -288,6 +290,4 @@ module _ (e : ReplayHead) where
 
   pub counters_some : AreWithin e.setting → 0 < counter_count e.setting
   counters_some within =
-      let rows_some : 0 < row_count e.setting =
-      omega (arith, mul-le 1 1 (e.setting.levels + 1) e.setting.rows (omega arith) (some_rows e.setting within)) in
-      omega (arith, few_rows 0 within rows_some)
+      omega (arith, few_rows 0 within (rows_some within))

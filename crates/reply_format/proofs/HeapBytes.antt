@@ -94,6 +94,10 @@ read_key b size low valid = record { size = refl; each = All-from_recursion (λ 
 abbrev pub AreAscending : List (List ℕ) → Type 0
 AreAscending keys = IsStrictlySortedBy (slice_cmp nat_cmp) keys
 
+pub ascending_none : AreAscending []
+unfolding IsStrictlySortedBy
+ascending_none = tt
+
 less_is : (o : Ordering) → is_lt o ≡ true → o ≡ Less
 less_is Less is = refl
 less_is Equal is = cc

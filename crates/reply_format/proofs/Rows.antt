@@ -93,7 +93,11 @@ sparse-more rows width counters row size row_size =
     ++ row_bytes (row_at width (counters ++ row) n)) (omega arith)
     ∙ (λ i. rows_same width 0 rows counters row (omega (arith, size)) i ++ row_bytes (last i))
 
--- a counter more
+-- no counter, and one more
+pub dense-none : dense_bytes [] ≡ []
+unfolding dense_bytes
+dense-none = refl
+
 pub dense-more : (counters : List ℤ) (c : ℤ) → dense_bytes (counters ++ c ∷ []) ≡ dense_bytes counters ++ counter_bytes c
 unfolding dense_bytes
 dense-more counters c = sym (flat_map_more counter_bytes [] counters c)
