@@ -11,9 +11,12 @@ pub mod ReplayBack
 pub mod ReplayFaults
 pub mod ReplayFields
 pub mod ReplayOn
+pub mod ReplayReads
 pub mod ReplaySays
 pub mod RowBack
 pub mod Rows
 pub mod SolveBack
 pub mod SolveFaults
 pub mod SolveOn
+pub mod SolveReads
+pub mod Vectors
