@@ -1,7 +1,6 @@
 -- The bytes of counters lead on, in both versions.
-use Rattle.std.proofs.Common.{◌≡◌, ◌<◌, ◌≤◌, ◌+◌, ◌-◌, ◌*◌, ◌^◌, ◌==◌, ◌&&◌, ℕ, zero, suc, List, [], ◌∷◌, ◌++◌, length, take, drop, All, Bool, true, false, not, Ok, if◌then◌else◌, ℤ, pos, inl, inr, refl, sym, ◌∙◌, ap, subst, arith, append_assoc, append-nil, length-append}
-use Rattle.std.specs.Prelude.{nat_le, nat_lt, count_by}
-use Rattle.std.specs.List.{flat_map}
+use Rattle.std.proofs.Common.{◌≡◌, ◌<◌, ◌≤◌, ◌+◌, ◌-◌, ◌*◌, ◌^◌, ◌==◌, ◌&&◌, ℕ, zero, suc, List, [], ◌∷◌, ◌++◌, length, take, drop, All, Bool, true, false, not, Ok, if◌then◌else◌, ℤ, pos, inl, inr, refl, sym, ◌∙◌, ap, arith, append_assoc, append-nil, length-append}
+use Rattle.std.specs.Prelude.{nat_le, nat_lt}
 use Rattle.std.specs.Ordering.{int_eq}
 use Rattle.std.proofs.lemmas.Bool.{and_from, ne_eqb, eq-eqb, le-leb, lt-ltb, cases_Bool}
 use Rattle.std.proofs.lemmas.List.{take-append-drop, length-take-le, length-drop, nil_from_length, replicate_more}
@@ -11,16 +10,15 @@ use Rattle.std.proofs.lemmas.Nat.{mul-le}
 use Rattle.std.proofs.lemmas.Bool.Decides.{Decides-int_eq}
 use Rattle.byteorder.specs.Endian.{little_bytes, little_number}
 use Rattle.byte_format.specs.Format.{At, reached}
-use Rattle.byte_format.proofs.Formats.{reached-on}
 use Rattle.byte_format.proofs.Numbers.{number_2}
-use Rattle.reply_format.specs.Places.{Place, place_size, judge_place, replay_format, behind_counter, behind_row, behind_value, if_right, magnitude, signed, zeros}
+use Rattle.reply_format.specs.Places.{Place, judge_place, replay_format, behind_counter, behind_row, behind_value, if_right, magnitude, signed, zeros}
 use Rattle.reply_format.specs.Places.{Counter, RowCount, Bucket, Value, HeapLength}
 use Rattle.reply_format.specs.Reply.{ReplayHead, IsCounter, counter_bytes, counter_count, dense_bytes, entries_bytes, nonzero_count, row_bytes, row_count, sparse_bytes}
 use Rattle.reply_format.specs.declared.fault.ReplyFault.TheVariants as faults
 use Rattle.reply_format.proofs.Counters.{counter_light, counter_signed, counter_some}
 use Rattle.reply_format.proofs.Judged.{right}
 use Rattle.reply_format.proofs.Limits.{AreWithin, some_width, small_width, some_rows}
-use Rattle.reply_format.proofs.ReplayFields.{replay_takes}
+use Rattle.reply_format.proofs.ReplayFields.{on}
 use Rattle.reply_format.proofs.Rows.{sparse-more}
 
 -- one more nonzero counter, or a 0
@@ -67,10 +65,6 @@ unfolding nonzero_count
 few_nonzero row = count_by-le-length (λ counter. not (int_eq counter (pos 0))) row
 
 module _ (e : ReplayHead) where
-  on : (s t : Place) (field rest : List ℕ) → length field ≡ place_size e s → judge_place e s field ≡ Ok t
-      → reached (replay_format e) (At s []) (field ++ rest) ≡ reached (replay_format e) (At t []) rest
-  on s t field rest whole ok = reached-on (replay_format e) (replay_takes e) s t field rest whole ok
-
   abbrev lead : Place → List ℕ → Place → List ℕ → Type 0
   lead s bytes t rest = reached (replay_format e) (At s []) bytes ≡ reached (replay_format e) (At t []) rest
 
@@ -103,13 +97,13 @@ module _ (e : ReplayHead) where
       → lead (Counter done) (dense_bytes (c ∷ todo) ++ rest) (HeapLength (done ++ c ∷ todo) []) rest
   unfolding dense_bytes
   dense_on done [] c rest each size =
-      on (Counter done) (behind_counter e (done ++ c ∷ [])) (counter_bytes c) rest refl
+      on e (Counter done) (behind_counter e (done ++ c ∷ [])) (counter_bytes c) rest refl
       (counter_ok done c (All-head (IsCounter e.weight) c [] each))
       ∙ at (behind_counter e (done ++ c ∷ [])) (HeapLength (done ++ c ∷ []) []) rest (counters_end (done ++ c ∷ []) size)
   dense_on done (next ∷ todo) c rest each size =
       let more : List ℕ = dense_bytes (next ∷ todo) ++ rest in
       let grouped : (done ++ c ∷ []) ++ next ∷ todo ≡ done ++ c ∷ next ∷ todo = append_assoc done (c ∷ []) (next ∷ todo) in
-      on (Counter done) (behind_counter e (done ++ c ∷ [])) (counter_bytes c) more refl
+      on e (Counter done) (behind_counter e (done ++ c ∷ [])) (counter_bytes c) more refl
       (counter_ok done c (All-head (IsCounter e.weight) c (next ∷ todo) each))
       ∙ at (behind_counter e (done ++ c ∷ [])) (Counter (done ++ c ∷ [])) more
       (counters_go_on (done ++ c ∷ []) (omega (arith, size, length-append done (c ∷ []), length-append done (c ∷ next ∷ todo))))
@@ -208,9 +202,9 @@ module _ (e : ReplayHead) where
             ∙ at (behind_value e cs from (nonzero_count (c ∷ row))) (Bucket cs from (suc left))
             (little_bytes 2 n ++ (counter_bytes c ++ more))
             (ap (λ (k : ℕ). behind_value e cs from k) (nonzero-other c row some) ∙ values_go_on cs from left)
-            ∙ on (Bucket cs from (suc left)) (Value (cs ++ zeros skipped) (n + 1) left) (little_bytes 2 n)
+            ∙ on e (Bucket cs from (suc left)) (Value (cs ++ zeros skipped) (n + 1) left) (little_bytes 2 n)
             (counter_bytes c ++ more) refl (bucket_ok cs from skipped left within (omega (arith, size)))
-            ∙ on (Value (cs ++ zeros skipped) (n + 1) left) (behind_value e filled (n + 1) left) (counter_bytes c) more refl
+            ∙ on e (Value (cs ++ zeros skipped) (n + 1) left) (behind_value e filled (n + 1) left) (counter_bytes c) more refl
             (value_ok (cs ++ zeros skipped) (n + 1) left c (All-head (IsCounter e.weight) c row each) some)
             ∙ spelled_as (behind_value e filled (n + 1) left) more (entries_bytes (n + 1 + 0) row ++ rest)
             (ap (λ (k : ℕ). entries_bytes k row ++ rest) same)
@@ -233,7 +227,7 @@ module _ (e : ReplayHead) where
       → length row ≡ e.setting.width
       → lead (RowCount cs) (row_bytes row ++ rest) (behind_row e (cs ++ row)) rest
   row_on cs row rest within each size =
-      on (RowCount cs) (behind_value e cs 0 (nonzero_count row)) (little_bytes 2 (nonzero_count row))
+      on e (RowCount cs) (behind_value e cs 0 (nonzero_count row)) (little_bytes 2 (nonzero_count row))
       (entries_bytes 0 row ++ rest) refl (row_ok cs row within size)
       ∙ entries_on cs 0 0 row rest within each (omega (arith, size))
 
@@ -244,8 +238,11 @@ module _ (e : ReplayHead) where
   pub few_rows : (rows : ℕ) → AreWithin e.setting → rows < row_count e.setting
       → rows * e.setting.width < counter_count e.setting
   few_rows rows within few =
-      omega (arith, mul-le (rows + 1) e.setting.width (row_count e.setting) e.setting.width (omega (arith, few)) (omega arith),
-      some_width e.setting within)
+      omega (
+        arith,
+        mul-le (rows + 1) e.setting.width (row_count e.setting) e.setting.width (omega (arith, few)) (omega arith),
+        some_width e.setting within,
+      )
 
   pub sparse_on : (rows : ℕ) (cs : List ℤ) (rest : List ℕ) → AreWithin e.setting → rows ≤ row_count e.setting
       → length cs ≡ rows * e.setting.width → All (IsCounter e.weight) cs

@@ -1,6 +1,6 @@
 -- Counters of eight bytes.
-use Rattle.std.proofs.Common.{◌≡◌, ◌<◌, ◌≤◌, ◌^◌, ◌-◌, ◌==◌, ℕ, zero, suc, List, length, Bool, true, false, refl, sym, ◌∙◌, ap, subst, arith, ℤ, pos, negsuc, w64, inl, inr}
-use Rattle.std.specs.Prelude.{nat_le, nat_lt, if◌then◌else◌, unsigned_abs, FitsSigned, ◌-ℤ◌}
+use Rattle.std.proofs.Common.{◌≡◌, ◌<◌, ◌≤◌, ◌^◌, ◌-◌, ℕ, zero, suc, List, length, true, false, sym, ◌∙◌, ap, subst, arith, ℤ, pos, negsuc, w64, inl, inr}
+use Rattle.std.specs.Prelude.{nat_le, nat_lt, FitsSigned}
 use Rattle.std.specs.Int.{cast_unsigned, cast_signed}
 use Rattle.std.specs.Ordering.{int_eq}
 use Rattle.std.proofs.lemmas.Bool.{cases_lt, true≢false, le-leb, lt-ltb, leb-true, ltb-true}

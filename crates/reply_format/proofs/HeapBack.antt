@@ -1,21 +1,20 @@
 -- Heaps back from their bytes.
-use Rattle.std.proofs.Common.{◌≡◌, ◌<◌, ◌≤◌, ◌^◌, ◌+◌, ◌-◌, ◌*◌, ◌%◌, ◌==◌, ◌&&◌, ◌||◌, ℕ, List, [], ◌∷◌, ◌++◌, length, All, Bool, true, false, if◌then◌else◌, ℤ, inl, inr, refl, sym, ◌∙◌, ap, subst, arith, append_assoc, append-nil, length-append}
+use Rattle.std.proofs.Common.{◌≡◌, ◌<◌, ◌≤◌, ◌^◌, ◌+◌, ◌-◌, ◌%◌, ◌==◌, ◌||◌, ℕ, List, [], ◌∷◌, ◌++◌, length, true, ℤ, inl, inr, sym, ◌∙◌, ap, subst, arith, append_assoc, length-append}
 use Rattle.std.specs.Prelude.{nat_le, nat_lt}
 use Rattle.std.specs.List.{flat_map}
 use Rattle.std.proofs.lemmas.Bool.{and_parts, or_cases, cond_both, eqb-true, eqb-false, leb-true, leb-false, ltb-true}
-use Rattle.std.proofs.lemmas.Bool.Decides.{nat_tests}
 use Rattle.std.proofs.lemmas.List.{flat_map_more}
 use Rattle.std.proofs.lemmas.List.Elements.{All-push, All-nil}
 use Rattle.byteorder.specs.Endian.{little_bytes}
 use Rattle.byte_format.specs.Keys.{key_bytes}
 use Rattle.flow_keys.specs.Key.{IsKey}
-use Rattle.reply_format.specs.Places.{Place, behind_heap, behind_key, is_above, is_heap_length}
+use Rattle.reply_format.specs.Places.{behind_heap, behind_key, is_above, is_heap_length}
 use Rattle.reply_format.specs.Places.{HeapLength, HeapKey, End}
 use Rattle.reply_format.specs.Reply.{ReplayHead, IsHeap, counters_bytes, heap_bytes, heaps_bytes, level_count}
 use Rattle.reply_format.specs.declared.heap.Heap.{Heap}
-use Rattle.reply_format.proofs.HeapBytes.{AreAscending, ascending_none, ascending_push}
+use Rattle.reply_format.proofs.HeapBytes.{ascending_none, ascending_push}
 use Rattle.reply_format.proofs.HeapOn.{heap_number, heap_with}
-use Rattle.reply_format.proofs.ReplaySays.{Says, Behind, behind_more, behind_as, InHeaps, AtHeap, InHeap, AtKey}
+use Rattle.reply_format.proofs.ReplaySays.{Says, behind_more, behind_as, regroup, InHeaps, AtHeap, InHeap, AtKey}
 
 -- a number that stands before a heap's keys is one of their number
 number_again : (n : ℕ) → n < 2 ^ 16 → heap_number (nat_le 32768 n) (n % 32768) ≡ n
@@ -29,9 +28,6 @@ dropped_full n limit right dropped =
       | inl low ↦ absurd (omega (arith, ltb-true n 32768 low, leb-true 32768 n dropped))
       | inr all ↦ eqb-true (n % 32768) limit all
     ]
-
-regroup : (a b c d more : List ℕ) → (a ++ (b ++ (c ++ d))) ++ more ≡ a ++ (b ++ (c ++ (d ++ more)))
-regroup a b c d more = simp append_assoc
 
 module _ (e : ReplayHead) where
   -- behind a heap

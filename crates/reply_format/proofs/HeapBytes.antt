@@ -1,6 +1,6 @@
 -- The keys of a heap, and their bytes.
-use Rattle.std.proofs.Common.{◌≡◌, ◌<◌, ◌≤◌, ◌+◌, ◌*◌, ◌^◌, ℕ, zero, suc, List, [], ◌∷◌, ◌++◌, length, get_or, take, drop, All, Bool, true, false, refl, sym, ◌∙◌, ap, subst, arith, append_assoc, append-nil, length-append, length-drop}
-use Rattle.std.specs.List.{flat_map, AllByRecursion}
+use Rattle.std.proofs.Common.{◌≡◌, ◌<◌, ◌≤◌, ◌+◌, ◌*◌, ◌^◌, ℕ, List, [], ◌∷◌, ◌++◌, length, get_or, take, drop, true, refl, sym, ◌∙◌, ap, arith, length-drop}
+use Rattle.std.specs.List.{AllByRecursion}
 use Rattle.std.specs.List.Sorted.{IsStrictlySortedBy}
 use Rattle.std.specs.Cmp.Lexicographic.{slice_cmp}
 use Rattle.std.specs.Ordering.{nat_cmp, is_lt}
@@ -44,8 +44,13 @@ word_bytes b at low within =
     let rest : List ℕ = drop at b in
     let size : 4 ≤ length rest = omega (arith, within, length-drop at b) in
     let front : little_number 4 rest ≡ little_number 4 (take 4 rest) =
-    omega (arith, get_or-take 4 rest 0 0 (omega arith), get_or-take 4 rest 1 0 (omega arith),
-    get_or-take 4 rest 2 0 (omega arith), get_or-take 4 rest 3 0 (omega arith)) in
+    omega (
+      arith,
+      get_or-take 4 rest 0 0 (omega arith),
+      get_or-take 4 rest 1 0 (omega arith),
+      get_or-take 4 rest 2 0 (omega arith),
+      get_or-take 4 rest 3 0 (omega arith),
+    ) in
     let spelled : little_bytes 4 (little_number 4 rest) ≡ take 4 rest =
     ap (λ (n : ℕ). little_bytes 4 n) front
     ∙ bytes_4 (take 4 rest) (length-take-le 4 rest size)

@@ -1,17 +1,15 @@
 -- The bytes of heaps lead on.
-use Rattle.std.proofs.Common.{◌≡◌, ◌<◌, ◌≤◌, ◌+◌, ◌-◌, ◌*◌, ◌%◌, ◌^◌, ◌==◌, ◌&&◌, ◌||◌, ℕ, zero, suc, List, [], ◌∷◌, ◌++◌, length, All, Bool, true, false, Ok, if◌then◌else◌, ℤ, inl, inr, refl, sym, ◌∙◌, ap, subst, arith, append_assoc, append-nil, length-append}
+use Rattle.std.proofs.Common.{◌≡◌, ◌<◌, ◌≤◌, ◌+◌, ◌-◌, ◌*◌, ◌%◌, ◌^◌, ◌==◌, ◌&&◌, ◌||◌, ℕ, suc, List, [], ◌∷◌, ◌++◌, length, All, Bool, true, false, Ok, if◌then◌else◌, ℤ, refl, sym, ◌∙◌, ap, subst, arith, append_assoc, append-nil, length-append}
 use Rattle.std.specs.Prelude.{nat_le, nat_lt}
 use Rattle.std.specs.List.{flat_map}
 use Rattle.std.proofs.lemmas.Bool.{and_from, ne_eqb, eq-eqb, le-leb, lt-leb, lt-ltb, or_left, or_right}
-use Rattle.std.proofs.lemmas.Bool.Decides.{nat_tests}
 use Rattle.std.proofs.lemmas.List.Elements.{All-head, All-tail}
-use Rattle.byteorder.specs.Endian.{little_bytes, little_number}
+use Rattle.byteorder.specs.Endian.{little_bytes}
 use Rattle.byte_format.specs.Format.{At, reached}
-use Rattle.byte_format.specs.Keys.{key_bytes, key_words}
-use Rattle.byte_format.proofs.Formats.{reached-on}
+use Rattle.byte_format.specs.Keys.{key_bytes}
 use Rattle.byte_format.proofs.Numbers.{number_2}
 use Rattle.flow_keys.specs.Key.{IsKey, is_valid}
-use Rattle.reply_format.specs.Places.{Place, place_size, judge_place, replay_format, behind_heap, behind_key, if_right, is_above, is_heap_length}
+use Rattle.reply_format.specs.Places.{Place, judge_place, replay_format, behind_heap, behind_key, if_right, is_above, is_heap_length}
 use Rattle.reply_format.specs.Places.{HeapLength, HeapKey, End}
 use Rattle.reply_format.specs.Reply.{ReplayHead, IsHeap, heap_bytes, level_count}
 use Rattle.reply_format.specs.declared.fault.ReplyFault.TheVariants as faults
@@ -19,7 +17,7 @@ use Rattle.reply_format.specs.declared.heap.Heap.{Heap}
 use Rattle.reply_format.proofs.HeapBytes.{AreAscending, above_next, key_read, length-key_bytes}
 use Rattle.reply_format.proofs.Judged.{right}
 use Rattle.reply_format.proofs.Limits.{AreWithin, small_heap}
-use Rattle.reply_format.proofs.ReplayFields.{replay_takes}
+use Rattle.reply_format.proofs.ReplayFields.{on}
 
 abbrev pub heap_with : Bool → List (List ℕ) → Heap
 heap_with dropped keys = record { dropped = dropped; keys = keys }
@@ -57,10 +55,6 @@ number_right false count limit few small full =
     (lt-ltb (count + 0) 32768 (omega (arith, few, small))))
 
 module _ (e : ReplayHead) where
-  on : (s t : Place) (field rest : List ℕ) → length field ≡ place_size e s → judge_place e s field ≡ Ok t
-      → reached (replay_format e) (At s []) (field ++ rest) ≡ reached (replay_format e) (At t []) rest
-  on s t field rest whole ok = reached-on (replay_format e) (replay_takes e) s t field rest whole ok
-
   module _ (cs : List ℤ) (heaps : List Heap) where
     key_left : (heap : Heap) (n : ℕ) → behind_key e cs heaps heap (suc n) ≡ HeapKey cs heaps heap (suc n)
     key_left heap n =
@@ -93,7 +87,7 @@ module _ (e : ReplayHead) where
         ap (λ (l : List ℕ). reached (replay_format e) (At (behind_key e cs heaps (heap_with dropped done) (suc (length todo))) []) l)
         (append_assoc (key_bytes key) (flat_map key_bytes todo) rest)
         ∙ ap (λ (p : Place). reached (replay_format e) (At p []) (key_bytes key ++ tail)) (key_left (heap_with dropped done) (length todo))
-        ∙ on (HeapKey cs heaps (heap_with dropped done) (suc (length todo)))
+        ∙ on e (HeapKey cs heaps (heap_with dropped done) (suc (length todo)))
         (behind_key e cs heaps (heap_with dropped (done ++ key ∷ [])) (length todo)) (key_bytes key) tail
         (length-key_bytes key ∙ ap (λ (n : ℕ). 4 * n) is.size)
         (key_ok dropped done key (length todo) is (above_next done key todo sorted))
@@ -120,7 +114,7 @@ module _ (e : ReplayHead) where
         → reached (replay_format e) (At (HeapLength cs heaps) []) (heap_bytes heap ++ rest)
         ≡ reached (replay_format e) (At (behind_heap e cs (heaps ++ heap ∷ [])) []) rest
     heap_on heap rest within is =
-        on (HeapLength cs heaps) (behind_key e cs heaps (heap_with heap.dropped []) (length heap.keys))
+        on e (HeapLength cs heaps) (behind_key e cs heaps (heap_with heap.dropped []) (length heap.keys))
         (little_bytes 2 (heap_number heap.dropped (length heap.keys))) (flat_map key_bytes heap.keys ++ rest) refl
         (length_ok heap within is)
         ∙ keys_on heap.dropped [] heap.keys rest is.each is.ascending

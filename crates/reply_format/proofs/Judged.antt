@@ -4,7 +4,7 @@ use Rattle.std.proofs.Common.{◌≡◌, Bool, true, false, Result, Ok, Err, if�
 ok_only : {S F : Type 0} (p q : S) → ◌≡◌ {A = Result S F} (Ok p) (Ok q) → p ≡ q
 ok_only p q is = cc
 
-err_only : {S F : Type 0} (p q : F) → ◌≡◌ {A = Result S F} (Err p) (Err q) → p ≡ q
+pub err_only : {S F : Type 0} (p q : F) → ◌≡◌ {A = Result S F} (Err p) (Err q) → p ≡ q
 err_only p q is = cc
 
 abbrev passed : {S F : Type 0} → Bool → F → S → Result S F

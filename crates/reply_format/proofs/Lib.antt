@@ -1,5 +1,6 @@
 pub mod CounterOn
 pub mod Counters
+pub mod Fronts
 pub mod HeapBack
 pub mod HeapBytes
 pub mod HeapOn

@@ -1,5 +1,5 @@
 -- Numbers back from their bytes to these.
-use Rattle.std.proofs.Common.{◌≡◌, ◌<◌, ◌≤◌, ℕ, ◌^◌, ◌+◌, List, [], ◌∷◌, ◌++◌, length, get_or, All, arith, inl, inr, refl}
+use Rattle.std.proofs.Common.{◌≡◌, ◌<◌, ℕ, ◌^◌, List, [], ◌∷◌, length, get_or, All, arith, inl, inr, refl}
 use Rattle.std.proofs.lemmas.Bool.{cases_lt}
 use Rattle.std.proofs.lemmas.List.{get_or_past}
 use Rattle.std.proofs.lemmas.List.Elements.{All-get_or}
@@ -40,5 +40,14 @@ fits_4 b low = omega (arith, low_at b low 0, low_at b low 1, low_at b low 2, low
 
 pub fits_8 : (b : List ℕ) → AreBytes b → little_number 8 b < 2 ^ 64
 fits_8 b low =
-    omega (arith, low_at b low 0, low_at b low 1, low_at b low 2, low_at b low 3, low_at b low 4, low_at b low 5,
-    low_at b low 6, low_at b low 7)
+    omega (
+      arith,
+      low_at b low 0,
+      low_at b low 1,
+      low_at b low 2,
+      low_at b low 3,
+      low_at b low 4,
+      low_at b low 5,
+      low_at b low 6,
+      low_at b low 7,
+    )

@@ -1,10 +1,9 @@
 -- Bytes that lead to the end of a replay reply spell it.
-use Rattle.std.proofs.Common.{◌≡◌, ◌<◌, ◌≤◌, ◌^◌, ◌+◌, ◌-◌, ◌*◌, ◌%◌, ◌==◌, ◌&&◌, ◌||◌, ℕ, List, [], ◌∷◌, ◌++◌, All, Bool, true, false, Ok, if◌then◌else◌, get_or, length, ℤ, pos, inl, inr, refl, sym, ◌∙◌, ap, subst, arith, append-nil, length-append, eqb-true}
+use Rattle.std.proofs.Common.{◌≡◌, ◌<◌, ◌≤◌, ◌^◌, ◌+◌, ◌-◌, ◌%◌, ◌==◌, ◌&&◌, ◌||◌, ℕ, List, [], ◌∷◌, ◌++◌, All, true, false, Ok, if◌then◌else◌, get_or, length, ℤ, pos, inl, inr, refl, sym, ◌∙◌, ap, subst, arith, append-nil, length-append, eqb-true}
 use Rattle.std.specs.Prelude.{nat_le, nat_lt}
 use Rattle.std.specs.Ordering.{int_eq}
 use Rattle.std.proofs.lemmas.Bool.{and_parts, leb-true, ltb-true}
 use Rattle.std.proofs.lemmas.List.Elements.{All-push, All-nil}
-use Rattle.std.proofs.lemmas.Nat.{mul-le}
 use Rattle.byteorder.specs.Endian.{little_bytes, little_number}
 use Rattle.byte_format.specs.Format.{At, reached}
 use Rattle.byte_format.specs.Keys.{key_words, key_bytes}
@@ -13,21 +12,21 @@ use Rattle.flow_keys.specs.Key.{is_valid}
 use Rattle.reply_format.specs.Places.{replay_format, Body, Place, place_size, judge_place, behind_counter, behind_key, behind_value, magnitude, signed, zeros, is_magic, is_above, is_heap_length}
 use Rattle.reply_format.specs.Places.{Magic, Version, Kind, Number, Levels, Rows, Width, HeapSize, Items, Weight, Counter, RowCount, Bucket, Value, HeapLength, HeapKey, End}
 use Rattle.reply_format.specs.Places as replays
-use Rattle.reply_format.specs.Reply.{ReplayHead, ExpectReplay, IsExpect, Replay, SpellsReply, IsHead, IsVersion, IsCounter, counter_bytes, counter_count, dense_bytes, front_bytes, row_count, sparse_bytes}
+use Rattle.reply_format.specs.Reply.{ReplayHead, ExpectReplay, IsExpect, Replay, SpellsReply, IsVersion, IsCounter, counter_bytes, dense_bytes, sparse_bytes}
 use Rattle.reply_format.specs.declared.fault.ReplyFault.TheVariants as faults
 use Rattle.reply_format.proofs.Counters.{signed_counter, signed_some, signed_bytes}
 use Rattle.reply_format.proofs.CounterOn.{counters_some, rows_some, sparse-none}
+use Rattle.reply_format.proofs.Fronts.{magic_is, version_is}
 use Rattle.reply_format.proofs.HeapBack.{heap_start, heap_key, key_says}
 use Rattle.reply_format.proofs.HeapBytes.{bytes_read, read_key}
 use Rattle.reply_format.proofs.HeapOn.{heap_with}
 use Rattle.reply_format.proofs.Judged.{right_only}
-use Rattle.reply_format.proofs.Limits.{AreWithin, some_rows}
+use Rattle.reply_format.proofs.Limits.{AreWithin}
 use Rattle.reply_format.proofs.Numbers.{AreBytes, one_byte, bytes_2, bytes_4, bytes_8, fits_2, fits_4, fits_8}
 use Rattle.reply_format.proofs.ReplayFields.{replay_takes}
-use Rattle.reply_format.proofs.ReplaySays.{Says, AtHead, head_more, Behind, behind_more, behind_as, InDense, InRows, InRow, AtBucket, AtValue, AtHeap, AtKey, InHeap}
+use Rattle.reply_format.proofs.ReplaySays.{Says, AtHead, head_more, Behind, behind_more, behind_as, InDense, InRow, AtBucket, AtValue}
 use Rattle.reply_format.proofs.RowBack.{counter_says, value_says, row_start, row_zeros, row_tail, row_entry}
 use Rattle.reply_format.proofs.Rows.{dense-more, dense-none}
-use Rattle.reply_format.proofs.SolveBack.{magic_bytes, magic_is, version_is}
 
 -- a number of one, two, four or eight bytes that stood is spelled so
 byte_same : (b : List ℕ) (n : ℕ) → length b ≡ 1 → (get_or b 0 0 == n) ≡ true → b ≡ n ∷ []
@@ -145,8 +144,8 @@ module _ (e : ReplayHead) (within : AreWithin e.setting) where
       (λ yes. (
         subst (λ (n : ℕ). n < 2 ^ 32) (eqb-true (little_number 4 b) e.items yes) (fits_4 b low),
         head_on v front
-        (e.setting.levels ∷ e.setting.rows ∷ (little_bytes 2 e.setting.width ++ little_bytes 2 e.setting.heap)) b
-        (little_bytes 4 e.items) (same_4 b e.items size low yes) is,
+            (e.setting.levels ∷ e.setting.rows ∷ (little_bytes 2 e.setting.width ++ little_bytes 2 e.setting.heap)) b
+            (little_bytes 4 e.items) (same_4 b e.items size low yes) is,
       )) ok
   step (Weight v) t front b is low size ok =
       right_only (λ p. Says e p (front ++ b)) (little_number 8 b == e.weight) faults.Totals
@@ -197,7 +196,7 @@ module _ (e : ReplayHead) (within : AreWithin e.setting) where
       (behind_key e cs heaps (heap_with (nat_le 32768 (little_number 2 b)) []) (little_number 2 b % 32768)) t
       (λ yes.
       subst (λ (l : List ℕ). Says e (behind_key e cs heaps (heap_with (nat_le 32768 (little_number 2 b)) [])
-          (little_number 2 b % 32768)) (front ++ l)) (bytes_2 b size low)
+      (little_number 2 b % 32768)) (front ++ l)) (bytes_2 b size low)
       (key_says e cs heaps (heap_with (nat_le 32768 (little_number 2 b)) []) (little_number 2 b % 32768)
       (front ++ little_bytes 2 (little_number 2 b))
       (heap_start e cs heaps (little_number 2 b) front (fits_2 b low) yes is))) ok
@@ -207,7 +206,7 @@ module _ (e : ReplayHead) (within : AreWithin e.setting) where
       (λ yes.
       let parts = and_parts (is_valid (key_words b)) (is_above heap.keys (key_words b)) yes in
       subst (λ (l : List ℕ). Says e (behind_key e cs heaps (heap_with heap.dropped (heap.keys ++ key_words b ∷ [])) (left - 1))
-          (front ++ l)) (bytes_read b size low)
+      (front ++ l)) (bytes_read b size low)
       (key_says e cs heaps (heap_with heap.dropped (heap.keys ++ key_words b ∷ [])) (left - 1) (front ++ key_bytes (key_words b))
       (heap_key e cs heaps heap left front (key_words b) (read_key b size low parts.0) parts.1 is))) ok
   step (End body) t front b is low size ok = absurd (cc)

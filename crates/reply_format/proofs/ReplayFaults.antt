@@ -1,5 +1,5 @@
 -- Where the bytes of a replay reply come to a fault, or end inside it.
-use Rattle.std.proofs.Common.{◌≡◌, ◌==◌, ◌||◌, ◌&&◌, ◌+◌, ◌-◌, ◌%◌, ℕ, List, [], get_or, length, false, Result, Err, subst, arith}
+use Rattle.std.proofs.Common.{◌≡◌, ◌==◌, ◌||◌, ◌&&◌, ℕ, List, [], get_or, false, Err, subst, arith}
 use Rattle.std.specs.Prelude.{nat_le, nat_lt}
 use Rattle.std.proofs.lemmas.List.{nil_from_length}
 use Rattle.byteorder.specs.Endian.{little_number}
@@ -15,7 +15,7 @@ use Rattle.reply_format.specs.Reply.{ReplayHead}
 use Rattle.reply_format.specs.declared.fault.ReplyFault.{ReplyFault}
 use Rattle.reply_format.specs.declared.fault.ReplyFault.TheVariants.{Short}
 use Rattle.reply_format.specs.declared.fault.ReplyFault.TheVariants as faults
-use Rattle.reply_format.proofs.Judged.{wrong_only}
+use Rattle.reply_format.proofs.Judged.{err_only, wrong_only}
 use Rattle.reply_format.proofs.ReplayFields.{replay_takes}
 
 -- the faults of the fields
@@ -30,9 +30,6 @@ data Tells : ReplyFault → Type 0 where
   TellsHeapLength : Tells faults.HeapLength
   TellsExtra : Tells faults.Extra
   TellsCounterPlace : Tells faults.CounterPlace
-
-err_only : (p q : ReplyFault) → ◌≡◌ {A = Result Place ReplyFault} (Err p) (Err q) → p ≡ q
-err_only p q is = cc
 
 judged_tells : (e : ReplayHead) (place : Place) (b : List ℕ) (fault : ReplyFault) → judge_place e place b ≡ Err fault
     → Tells fault
@@ -67,7 +64,7 @@ judged_tells e (HeapLength cs heaps) b fault is =
 judged_tells e (HeapKey cs heaps heap left) b fault is =
     wrong_only Tells (is_valid (key_words b) && is_above heap.keys (key_words b)) faults.HeapOrder _ fault
     TellsHeapOrder is
-judged_tells e (End body) b fault is = subst Tells (err_only faults.Extra fault is) TellsExtra
+judged_tells e (End body) b fault is = subst Tells (err_only {S = Place} faults.Extra fault is) TellsExtra
 
 told : (e : ReplayHead) (bytes : List ℕ) (fault : ReplyFault) → Breaks (replay_format e) replays.Magic bytes fault
     → Tells fault → BreaksReplay e bytes fault

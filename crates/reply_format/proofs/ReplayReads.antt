@@ -1,5 +1,5 @@
 -- What the bytes of a replay reply are read as: always one thing, and never two.
-use Rattle.std.proofs.Common.{◌≡◌, ◌<◌, ℕ, List, [], All, Bool, true, false, Result, Ok, Err, inl, inr, ◌⊎◌, refl, sym, ◌∙◌, ap, subst}
+use Rattle.std.proofs.Common.{◌≡◌, ◌<◌, ℕ, List, [], All, false, Result, Ok, Err, inl, inr, ◌⊎◌, refl, sym, ◌∙◌, ap, subst}
 use Rattle.std.proofs.lemmas.Bool.{true≢false}
 use Rattle.byte_format.specs.Format.{At, Broken, Breaks, Reached, reached}
 use Rattle.byte_format.proofs.Formats.{breaks-reached, ends-reached}

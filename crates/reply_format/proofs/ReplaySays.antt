@@ -1,5 +1,5 @@
 -- What the bytes before a place of a replay reply are.
-use Rattle.std.proofs.Common.{◌≡◌, ◌<◌, ◌≤◌, ◌^◌, ◌+◌, ◌-◌, ◌*◌, ℕ, List, [], ◌∷◌, ◌++◌, length, All, true, ℤ, sym, ◌∙◌, ap, append_assoc}
+use Rattle.std.proofs.Common.{◌≡◌, ◌<◌, ◌≤◌, ◌^◌, ◌+◌, ◌-◌, ◌*◌, ℕ, List, [], ◌∷◌, ◌++◌, length, All, true, ℤ, ◌∙◌, ap, append_assoc}
 use Rattle.std.specs.List.{flat_map}
 use Rattle.byteorder.specs.Endian.{little_bytes}
 use Rattle.byte_format.specs.Keys.{key_bytes}
@@ -8,9 +8,13 @@ use Rattle.reply_format.specs.Places.{Place}
 use Rattle.reply_format.specs.Places.{Magic, Version, Kind, Number, Levels, Rows, Width, HeapSize, Items, Weight, Counter, RowCount, Bucket, Value, HeapLength, HeapKey, End}
 use Rattle.reply_format.specs.Reply.{ReplayHead, Replay, IsCounter, IsHead, IsHeap, IsVersion, SpellsReply, counters_bytes, counter_count, dense_bytes, entries_bytes, front_bytes, head_bytes, heaps_bytes, level_count, nonzero_count, row_count, sparse_bytes}
 use Rattle.reply_format.specs.declared.heap.Heap.{Heap}
+use Rattle.reply_format.proofs.Fronts.{magic_bytes}
 use Rattle.reply_format.proofs.HeapBytes.{AreAscending}
 use Rattle.reply_format.proofs.HeapOn.{heap_number}
-use Rattle.reply_format.proofs.SolveBack.{magic_bytes}
+
+-- bytes behind the last of four
+pub regroup : (a b c d more : List ℕ) → (a ++ (b ++ (c ++ d))) ++ more ≡ a ++ (b ++ (c ++ (d ++ more)))
+regroup a b c d more = simp append_assoc
 
 module _ (e : ReplayHead) where
   -- the first fields, and then these bytes

@@ -1,18 +1,17 @@
 -- Counters back from their bytes, in both versions.
-use Rattle.std.proofs.Common.{◌≡◌, ◌<◌, ◌≤◌, ◌^◌, ◌+◌, ◌-◌, ◌*◌, ◌==◌, ℕ, List, [], ◌∷◌, ◌++◌, length, All, Bool, true, false, if◌then◌else◌, ℤ, pos, inl, inr, refl, sym, ◌∙◌, ap, subst, arith, append_assoc, append-nil, length-append}
+use Rattle.std.proofs.Common.{◌≡◌, ◌<◌, ◌≤◌, ◌+◌, ◌-◌, ◌*◌, ◌==◌, ℕ, List, [], ◌∷◌, ◌++◌, length, All, false, ℤ, pos, inl, inr, refl, sym, ◌∙◌, ap, subst, arith, append_assoc, append-nil, length-append}
 use Rattle.std.specs.Ordering.{int_eq}
 use Rattle.std.proofs.lemmas.Bool.{cases_eq, cond_both, eqb-true, eqb-false}
 use Rattle.std.proofs.lemmas.List.{length-replicate}
 use Rattle.std.proofs.lemmas.List.Elements.{All-append, All-push, All-replicate, All-nil}
-use Rattle.std.proofs.lemmas.Nat.{mul-le}
 use Rattle.byteorder.specs.Endian.{little_bytes}
-use Rattle.reply_format.specs.Places.{Place, behind_counter, behind_row, behind_value, zeros}
-use Rattle.reply_format.specs.Places.{Counter, RowCount, Bucket, HeapLength}
-use Rattle.reply_format.specs.Reply.{ReplayHead, IsCounter, counter_bytes, counter_count, dense_bytes, entries_bytes, nonzero_count, row_bytes, row_count, sparse_bytes, counters_bytes, heaps_bytes, level_count}
+use Rattle.reply_format.specs.Places.{behind_counter, behind_row, behind_value, zeros}
+use Rattle.reply_format.specs.Places.{Counter, Bucket, HeapLength}
+use Rattle.reply_format.specs.Reply.{ReplayHead, IsCounter, counter_bytes, counter_count, dense_bytes, entries_bytes, nonzero_count, row_count, sparse_bytes, counters_bytes}
 use Rattle.reply_format.proofs.CounterOn.{rows_end, rows_go_on, few_rows, nonzero-none, entries-none}
-use Rattle.reply_format.proofs.Limits.{AreWithin, some_width}
-use Rattle.reply_format.proofs.ReplaySays.{Says, Behind, behind_more, behind_as, InDense, InRows, InRow, AtBucket, AtValue, InHeaps, AtHeap}
-use Rattle.reply_format.proofs.Rows.{sparse-more, dense-more, nonzero-append, nonzero-zeros, nonzero-more, entries-append, entries-zeros, entries-more}
+use Rattle.reply_format.proofs.Limits.{AreWithin}
+use Rattle.reply_format.proofs.ReplaySays.{Says, Behind, behind_more, behind_as, regroup, InRows, InRow, AtHeap}
+use Rattle.reply_format.proofs.Rows.{sparse-more, nonzero-append, nonzero-zeros, nonzero-more, entries-append, entries-zeros, entries-more}
 
 -- a counter of 0
 zero_counter : (weight : ℕ) → IsCounter weight (pos 0)
@@ -20,9 +19,6 @@ zero_counter weight = record { light = omega arith; fits = record { sfits = omeg
 
 zero_counters : (weight n : ℕ) → All (IsCounter weight) (zeros n)
 zero_counters weight n = All-replicate (IsCounter weight) n (pos 0) (zero_counter weight)
-
-regroup : (a b c d more : List ℕ) → (a ++ (b ++ (c ++ d))) ++ more ≡ a ++ (b ++ (c ++ (d ++ more)))
-regroup a b c d more = simp append_assoc
 
 module _ (e : ReplayHead) (within : AreWithin e.setting) where
   -- all counters are there

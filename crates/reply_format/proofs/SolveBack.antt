@@ -1,8 +1,7 @@
 -- Bytes that lead to the tree of a solve reply spell all that stands before it.
-use Rattle.std.proofs.Common.{◌≡◌, ◌<◌, ◌≤◌, ◌^◌, ◌+◌, ◌-◌, ◌==◌, ◌&&◌, ◌||◌, ℕ, zero, suc, List, [], ◌∷◌, ◌++◌, All, Bool, true, false, Ok, get_or, length, inl, inr, refl, sym, ◌∙◌, ap, subst, arith, append-nil, append_assoc, length-append, eqb-true}
-use Rattle.std.specs.Prelude.{nat_le, nat_lt, if◌then◌else◌}
-use Rattle.std.proofs.lemmas.Bool.{and_parts, or_cases, cond_both, leb-true, leb-false, ltb-true, true≢false}
-use Rattle.std.proofs.lemmas.Bool.Decides.{nat_tests}
+use Rattle.std.proofs.Common.{◌≡◌, ◌<◌, ◌≤◌, ◌^◌, ◌+◌, ◌-◌, ◌==◌, ◌&&◌, ◌||◌, ℕ, zero, suc, List, [], ◌∷◌, ◌++◌, All, Bool, true, false, Ok, get_or, length, refl, sym, ◌∙◌, ap, subst, arith, append-nil, append_assoc, length-append, eqb-true}
+use Rattle.std.specs.Prelude.{nat_le, nat_lt}
+use Rattle.std.proofs.lemmas.Bool.{and_parts, cond_both, leb-true, leb-false, ltb-true, true≢false}
 use Rattle.std.proofs.lemmas.List.Elements.{All-push, All-nil}
 use Rattle.byteorder.specs.Endian.{little_bytes, little_number}
 use Rattle.byte_format.specs.Format.{At, reached}
@@ -14,28 +13,10 @@ use Rattle.reply_format.specs.Places.{is_magic}
 use Rattle.reply_format.specs.Read.{IsFound, found_bytes, HasRest}
 use Rattle.reply_format.specs.Reply.{IsVersion, front_bytes}
 use Rattle.reply_format.specs.declared.fault.ReplyFault.TheVariants as faults
+use Rattle.reply_format.proofs.Fronts.{magic_bytes, magic_is, version_is}
 use Rattle.reply_format.proofs.Judged.{right_only}
 use Rattle.reply_format.proofs.Numbers.{AreBytes, one_byte, bytes_4, fits_4}
 use Rattle.reply_format.proofs.SolveOn.{solve_takes}
-
-abbrev pub magic_bytes : List ℕ
-magic_bytes = 0x55 ∷ 0x4d ∷ 0x52 ∷ 0x50 ∷ []
-
-pub magic_is : (b : List ℕ) → length b ≡ 4 → is_magic b ≡ true → b ≡ magic_bytes
-magic_is [] size is = absurd (omega (arith, size))
-magic_is (x ∷ []) size is = absurd (omega (arith, size))
-magic_is (x ∷ y ∷ []) size is = absurd (omega (arith, size))
-magic_is (x ∷ y ∷ z ∷ []) size is = absurd (omega (arith, size))
-magic_is (x ∷ y ∷ z ∷ w ∷ []) size is =
-    let a = and_parts (x == 0x55 && y == 0x4d && z == 0x52) (w == 0x50) is in
-    let b = and_parts (x == 0x55 && y == 0x4d) (z == 0x52) a.0 in
-    let c = and_parts (x == 0x55) (y == 0x4d) b.0 in
-    λ i. eqb-true x 0x55 c.0 i ∷ eqb-true y 0x4d c.1 i ∷ eqb-true z 0x52 b.1 i ∷ eqb-true w 0x50 a.1 i ∷ []
-magic_is (x ∷ y ∷ z ∷ w ∷ v ∷ b) size is = absurd (omega (arith, size))
-
-pub version_is : (v : ℕ) → (v == 1 || v == 2) ≡ true → IsVersion v
-version_is v is =
-    elim (or_cases (v == 1) (v == 2) is) [ inl one ↦ inl (eqb-true v 1 one) | inr two ↦ inr (eqb-true v 2 two) ]
 
 -- bytes are all that stands before an outcome, and then these
 pub record IsFronted (number : ℕ) (bytes tail : List ℕ) : Type 0 where
@@ -273,8 +254,7 @@ pub solve_rest_back : (number : ℕ) (bytes part : List ℕ) (found : Found) →
     → (front : List ℕ) × (rest : List ℕ) × (bytes ≡ front ++ rest) × IsFront number front found
 solve_rest_back number bytes part found low is =
     let at = loose_at number bytes part (Tree found) low is in
-    let loose : Loose number (Tree found) at.0 = at.1.1 in
-    (
+    let loose : Loose number (Tree found) at.0 = at.1.1 in (
       loose.exact,
       loose.rest ++ part,
       at.1.0 ∙ ap (λ (l : List ℕ). l ++ part) loose.parts ∙ append_assoc loose.exact loose.rest part,

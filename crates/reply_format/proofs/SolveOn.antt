@@ -1,5 +1,5 @@
 -- The bytes of a solve reply up to its tree lead to the tree.
-use Rattle.std.proofs.Common.{◌≡◌, ◌<◌, ◌≤◌, ◌^◌, ◌+◌, ◌-◌, ◌==◌, ◌||◌, ◌&&◌, ℕ, List, [], ◌∷◌, ◌++◌, length, All, Bool, true, false, Ok, if◌then◌else◌, inl, inr, refl, sym, ◌∙◌, ap, arith, append-nil, append_assoc, length-append, eq-eqb}
+use Rattle.std.proofs.Common.{◌≡◌, ◌<◌, ◌≤◌, ◌^◌, ◌+◌, ◌-◌, ◌==◌, ◌||◌, ◌&&◌, ℕ, List, [], ◌∷◌, ◌++◌, length, All, Bool, true, false, Ok, if◌then◌else◌, refl, sym, ◌∙◌, ap, arith, append-nil, append_assoc, eq-eqb}
 use Rattle.std.specs.Prelude.{nat_le, nat_lt}
 use Rattle.std.proofs.lemmas.Bool.Decides.{nat_tests}
 use Rattle.std.proofs.lemmas.List.Elements.{All-head, All-tail}
@@ -13,6 +13,7 @@ use Rattle.reply_format.specs.Outcomes as solves
 use Rattle.reply_format.specs.Read.{IsFound, found_bytes}
 use Rattle.reply_format.specs.Reply.{IsVersion, front_bytes}
 use Rattle.reply_format.specs.declared.fault.ReplyFault.TheVariants as faults
+use Rattle.reply_format.proofs.Fronts.{version_known}
 use Rattle.reply_format.proofs.Judged.{right}
 
 takes_some : (place : Place) → 0 < place_size place
@@ -28,11 +29,6 @@ takes_some (Tree found) = omega arith
 -- each place takes bytes
 pub solve_takes : (number : ℕ) → TakesBytes (solve_format number)
 solve_takes number = record { some = takes_some }
-
--- a version that is known
-pub version_known : (version : ℕ) → IsVersion version → (version == 1 || version == 2) ≡ true
-version_known version (inl is) = ap (λ (v : ℕ). v == 1 || v == 2) is
-version_known version (inr is) = ap (λ (v : ℕ). v == 1 || v == 2) is
 
 few_sites : (n : ℕ) → 1 ≤ n → n ≤ 64 → (nat_le 1 n && nat_le n 64) ≡ true
 few_sites n some few = grind (arith, nat_tests)

@@ -9,7 +9,7 @@ use Rattle.bound_certificate.specs.declared.outcome.Outcome.{Outcome}
 use Rattle.bound_certificate.specs.declared.outcome.Outcome.TheVariants as outcomes
 use Rattle.bound_certificate.specs.declared.tree.Tree.{Tree}
 use Rattle.byte_format.specs.Format.{At, Broken, Breaks, Reached, reached}
-use Rattle.byte_format.proofs.Formats.{all_left, all_right, breaks-reached, ends-reached}
+use Rattle.byte_format.proofs.Formats.{all_right, breaks-reached, ends-reached}
 use Rattle.certificate_text.specs.Bytes.{bytes_of}
 use Rattle.certificate_text.specs.ReadBytes.{ReadsBytes}
 use Rattle.certificate_text.specs.declared.fault.TreeBytesFault.{TreeBytesFault}
@@ -245,39 +245,41 @@ module _ (number : ℕ) where
         | inl less ↦ (
           Err faults.Extra,
           subst (λ (l : List ℕ). HasRest number l GoesOn) (sym parts)
-          (front_rest number front rest found GoesOn is (read.0, read.1, reads, less)),
+              (front_rest number front rest found GoesOn is (read.0, read.1, reads, less)),
         )
         | inr whole ↦
             let none : drop read.1 rest ≡ [] = drop_all read.1 rest whole in
             let tail : rest ≡ bytes_of read.0 =
-            reads.parts ∙ ap (λ (l : List ℕ). bytes_of read.0 ++ l) none ∙ append-nil (bytes_of read.0) in
-            (
+            reads.parts ∙ ap (λ (l : List ℕ). bytes_of read.0 ++ l) none ∙ append-nil (bytes_of read.0) in (
               Ok (Solve (record { number = number; outcome = outcome_of found read.0 })),
-              (refl, record {
-                within = record {
-                  number = is.fits;
-                  formed = subst (λ tree. IsTrue (is_formed tree)) (sym (of_tree found read.0)) reads.may;
-                  written = of_written found read.0 is.written;
-                };
-                version = is.version;
-                known = is.known;
-                parts =
-                    parts
-                    ∙ (λ i. is.parts i ++ tail i)
-                    ∙ append_assoc (front_bytes is.version 1 number) (found_bytes found) (bytes_of read.0)
-                    ∙ ap (λ (l : List ℕ). front_bytes is.version 1 number ++ l) (sym (of_spelled found read.0));
-              }),
+              (
+                refl,
+                record {
+                  within = record {
+                    number = is.fits;
+                    formed = subst (λ tree. IsTrue (is_formed tree)) (sym (of_tree found read.0)) reads.may;
+                    written = of_written found read.0 is.written;
+                  };
+                  version = is.version;
+                  known = is.known;
+                  parts =
+                      parts
+                      ∙ (λ i. is.parts i ++ tail i)
+                      ∙ append_assoc (front_bytes is.version 1 number) (found_bytes found) (bytes_of read.0)
+                      ∙ ap (λ (l : List ℕ). front_bytes is.version 1 number ++ l) (sym (of_spelled found read.0));
+                },
+              ),
             )
       ]
   rest_always bytes front rest found (Err trees.Short) parts is reads = (
     Err faults.Short,
     inr (subst (λ (l : List ℕ). HasRest number l (IsNoTree trees.Short)) (sym parts)
-    (front_rest number front rest found (IsNoTree trees.Short) is reads)),
+        (front_rest number front rest found (IsNoTree trees.Short) is reads)),
   )
   rest_always bytes front rest found (Err trees.Shape) parts is reads = (
     Err faults.Shape,
     inr (subst (λ (l : List ℕ). HasRest number l (IsNoTree trees.Shape)) (sym parts)
-    (front_rest number front rest found (IsNoTree trees.Shape) is reads)),
+        (front_rest number front rest found (IsNoTree trees.Shape) is reads)),
   )
   rest_always bytes front rest found (Err trees.Memory) parts is reads = absurd reads
 
