@@ -44,13 +44,15 @@ entries-other : (bucket : ℕ) (c : ℤ) (row : List ℤ) → int_eq c (pos 0) �
     → entries_bytes bucket (c ∷ row) ≡ (little_bytes 2 bucket ++ counter_bytes c) ++ entries_bytes (bucket + 1) row
 unfolding entries_bytes
 entries-other bucket c row some =
-    ap (λ (b : Bool). (if b then [] else little_bytes 2 bucket ++ counter_bytes c) ++ entries_bytes (bucket + 1) row) some
+    ap (λ (b : Bool). (if b then [] else little_bytes 2 bucket ++ counter_bytes c) ++ entries_bytes (bucket + 1) row)
+    some
 
 entries-zero : (bucket : ℕ) (c : ℤ) (row : List ℤ) → int_eq c (pos 0) ≡ true
     → entries_bytes bucket (c ∷ row) ≡ entries_bytes (bucket + 1) row
 unfolding entries_bytes
 entries-zero bucket c row none =
-    ap (λ (b : Bool). (if b then [] else little_bytes 2 bucket ++ counter_bytes c) ++ entries_bytes (bucket + 1) row) none
+    ap (λ (b : Bool). (if b then [] else little_bytes 2 bucket ++ counter_bytes c) ++ entries_bytes (bucket + 1) row)
+    none
 
 pub entries-none : (bucket : ℕ) → entries_bytes bucket [] ≡ []
 unfolding entries_bytes
@@ -99,15 +101,19 @@ module _ (e : ReplayHead) where
   dense_on done [] c rest each size =
       on e (Counter done) (behind_counter e (done ++ c ∷ [])) (counter_bytes c) rest refl
       (counter_ok done c (All-head (IsCounter e.weight) c [] each))
-      ∙ at (behind_counter e (done ++ c ∷ [])) (HeapLength (done ++ c ∷ []) []) rest (counters_end (done ++ c ∷ []) size)
+      ∙ at (behind_counter e (done ++ c ∷ [])) (HeapLength (done ++ c ∷ []) []) rest
+      (counters_end (done ++ c ∷ []) size)
   dense_on done (next ∷ todo) c rest each size =
       let more : List ℕ = dense_bytes (next ∷ todo) ++ rest in
-      let grouped : (done ++ c ∷ []) ++ next ∷ todo ≡ done ++ c ∷ next ∷ todo = append_assoc done (c ∷ []) (next ∷ todo) in
+      let grouped : (done ++ c ∷ []) ++ next ∷ todo ≡ done ++ c ∷ next ∷ todo =
+      append_assoc done (c ∷ []) (next ∷ todo) in
       on e (Counter done) (behind_counter e (done ++ c ∷ [])) (counter_bytes c) more refl
       (counter_ok done c (All-head (IsCounter e.weight) c (next ∷ todo) each))
       ∙ at (behind_counter e (done ++ c ∷ [])) (Counter (done ++ c ∷ [])) more
-      (counters_go_on (done ++ c ∷ []) (omega (arith, size, length-append done (c ∷ []), length-append done (c ∷ next ∷ todo))))
-      ∙ dense_on (done ++ c ∷ []) todo next rest (All-tail (IsCounter e.weight) c (next ∷ todo) each) (ap length grouped ∙ size)
+      (counters_go_on (done ++ c ∷ [])
+      (omega (arith, size, length-append done (c ∷ []), length-append done (c ∷ next ∷ todo))))
+      ∙ dense_on (done ++ c ∷ []) todo next rest (All-tail (IsCounter e.weight) c (next ∷ todo) each)
+      (ap length grouped ∙ size)
       ∙ at (HeapLength ((done ++ c ∷ []) ++ next ∷ todo) []) (HeapLength (done ++ c ∷ next ∷ todo) []) rest
       (ap (λ (l : List ℤ). HeapLength l []) grouped)
 
@@ -127,7 +133,8 @@ module _ (e : ReplayHead) where
   values_go_on : (cs : List ℤ) (from left : ℕ) → behind_value e cs from (suc left) ≡ Bucket cs from (suc left)
   values_go_on cs from left =
       let some : (suc left == 0) ≡ false = ne_eqb (suc left) 0 (λ none. absurd (omega (arith, none))) in
-      ap (λ (b : Bool). if b then behind_row e (cs ++ zeros (e.setting.width - from)) else Bucket cs from (suc left)) some
+      ap (λ (b : Bool). if b then behind_row e (cs ++ zeros (e.setting.width - from)) else Bucket cs from (suc left))
+      some
 
   bucket_ok : (cs : List ℤ) (from skipped left : ℕ) → AreWithin e.setting → from + skipped < e.setting.width
       → judge_place e (Bucket cs from (suc left)) (little_bytes 2 (from + skipped))
@@ -142,7 +149,8 @@ module _ (e : ReplayHead) where
       (Value (cs ++ zeros (k - from)) (k + 1) (suc left - 1))) (number_2 n fits)
       ∙ right (nat_le from n && nat_lt n e.setting.width) faults.CounterPlace
       (Value (cs ++ zeros (n - from)) (n + 1) (suc left - 1))
-      (and_from (nat_le from n) (nat_lt n e.setting.width) (le-leb from n (omega arith)) (lt-ltb n e.setting.width inside))
+      (and_from (nat_le from n) (nat_lt n e.setting.width) (le-leb from n (omega arith))
+      (lt-ltb n e.setting.width inside))
       ∙ (λ i. Ok (Value (cs ++ zeros (gap i)) (n + 1) (less i)))
 
   value_ok : (cs : List ℤ) (from left : ℕ) (c : ℤ) → IsCounter e.weight c → int_eq c (pos 0) ≡ false
@@ -152,7 +160,8 @@ module _ (e : ReplayHead) where
       let n : ℕ = little_number 8 (counter_bytes c) in
       right (nat_lt 0 n && nat_le (magnitude n) e.weight) faults.CounterRange
       (behind_value e (cs ++ signed (counter_bytes c) ∷ []) from left)
-      (and_from (nat_lt 0 n) (nat_le (magnitude n) e.weight) (counter_some e.weight c is some) (counter_light e.weight c is))
+      (and_from (nat_lt 0 n) (nat_le (magnitude n) e.weight) (counter_some e.weight c is some)
+      (counter_light e.weight c is))
       ∙ ap (λ (z : ℤ). Ok (behind_value e (cs ++ z ∷ []) from left)) (counter_signed e.weight c is)
 
   entries_on : (cs : List ℤ) (from skipped : ℕ) (row : List ℤ) (rest : List ℕ) → AreWithin e.setting
@@ -181,13 +190,15 @@ module _ (e : ReplayHead) where
             ap (λ (l : List ℤ). l ++ row) (sym (replicate_more skipped (pos 0)))
             ∙ append_assoc (zeros skipped) (pos 0 ∷ []) row
             ∙ ap (λ (z : ℤ). zeros skipped ++ z ∷ row) zero_is in
-            spelled_as (behind_value e cs from (nonzero_count (c ∷ row))) (entries_bytes (from + skipped) (c ∷ row) ++ rest)
+            spelled_as (behind_value e cs from (nonzero_count (c ∷ row)))
+            (entries_bytes (from + skipped) (c ∷ row) ++ rest)
             (entries_bytes (from + (skipped + 1)) row ++ rest) (ap (λ (l : List ℕ). l ++ rest) spelled)
             ∙ at (behind_value e cs from (nonzero_count (c ∷ row))) (behind_value e cs from (nonzero_count row))
             (entries_bytes (from + (skipped + 1)) row ++ rest)
             (ap (λ (n : ℕ). behind_value e cs from n) (nonzero-zero c row none))
             ∙ entries_on cs from (skipped + 1) row rest within others (omega (arith, size))
-            ∙ at (behind_row e (cs ++ (zeros (skipped + 1) ++ row))) (behind_row e (cs ++ (zeros skipped ++ c ∷ row))) rest
+            ∙ at (behind_row e (cs ++ (zeros (skipped + 1) ++ row))) (behind_row e (cs ++ (zeros skipped ++ c ∷ row)))
+            rest
             (ap (λ (l : List ℤ). behind_row e (cs ++ l)) grouped)
         | inr some ↦
             let n : ℕ = from + skipped in
@@ -198,13 +209,15 @@ module _ (e : ReplayHead) where
             let grouped : filled ++ row ≡ cs ++ (zeros skipped ++ c ∷ row) =
             append_assoc (cs ++ zeros skipped) (c ∷ []) row ∙ append_assoc cs (zeros skipped) (c ∷ row) in
             spelled_as (behind_value e cs from (nonzero_count (c ∷ row))) (entries_bytes n (c ∷ row) ++ rest)
-            (little_bytes 2 n ++ (counter_bytes c ++ more)) (ap (λ (l : List ℕ). l ++ rest) (entries-other n c row some))
+            (little_bytes 2 n ++ (counter_bytes c ++ more))
+            (ap (λ (l : List ℕ). l ++ rest) (entries-other n c row some))
             ∙ at (behind_value e cs from (nonzero_count (c ∷ row))) (Bucket cs from (suc left))
             (little_bytes 2 n ++ (counter_bytes c ++ more))
             (ap (λ (k : ℕ). behind_value e cs from k) (nonzero-other c row some) ∙ values_go_on cs from left)
             ∙ on e (Bucket cs from (suc left)) (Value (cs ++ zeros skipped) (n + 1) left) (little_bytes 2 n)
             (counter_bytes c ++ more) refl (bucket_ok cs from skipped left within (omega (arith, size)))
-            ∙ on e (Value (cs ++ zeros skipped) (n + 1) left) (behind_value e filled (n + 1) left) (counter_bytes c) more refl
+            ∙ on e (Value (cs ++ zeros skipped) (n + 1) left) (behind_value e filled (n + 1) left) (counter_bytes c)
+            more refl
             (value_ok (cs ++ zeros skipped) (n + 1) left c (All-head (IsCounter e.weight) c row each) some)
             ∙ spelled_as (behind_value e filled (n + 1) left) more (entries_bytes (n + 1 + 0) row ++ rest)
             (ap (λ (k : ℕ). entries_bytes k row ++ rest) same)
@@ -265,7 +278,8 @@ module _ (e : ReplayHead) where
       let next : suc rows ≡ rows + 1 = omega arith in
       let spelled : sparse_bytes (suc rows) width cs ≡ sparse_bytes rows width front ++ row_bytes row =
       (λ i. sparse_bytes (next i) width (sym whole i)) ∙ sparse-more rows width front row front_size row_size in
-      spelled_as (RowCount []) (sparse_bytes (suc rows) width cs ++ rest) ((sparse_bytes rows width front ++ row_bytes row) ++ rest)
+      spelled_as (RowCount []) (sparse_bytes (suc rows) width cs ++ rest)
+      ((sparse_bytes rows width front ++ row_bytes row) ++ rest)
       (ap (λ (l : List ℕ). l ++ rest) spelled)
       ∙ spelled_as (RowCount []) ((sparse_bytes rows width front ++ row_bytes row) ++ rest)
       (sparse_bytes rows width front ++ (row_bytes row ++ rest))

@@ -34,7 +34,8 @@ module _ (e : ReplayHead) where
   pub heap_says : (cs : List ℤ) (heaps : List Heap) (front : List ℕ) → length heaps ≤ level_count e.setting
       → InHeaps e cs heaps front → Says e (behind_heap e cs heaps) front
   heap_says cs heaps front few is =
-      cond_both (length heaps == level_count e.setting) (End (record { counters = cs; heaps = heaps })) (HeapLength cs heaps)
+      cond_both (length heaps == level_count e.setting) (End (record { counters = cs; heaps = heaps }))
+      (HeapLength cs heaps)
       (λ p. Says e p front)
       (λ all. record {
         within = record {
@@ -103,11 +104,14 @@ module _ (e : ReplayHead) where
         behind =
             behind_as e v (front ++ key_bytes key)
             ((counters ++ (heaps_bytes heaps ++ (count ++ flat_map key_bytes keys))) ++ key_bytes key)
-            (counters ++ (heaps_bytes heaps ++ (little_bytes 2 (heap_number heap.dropped (length (keys ++ key ∷ []) + (left - 1)))
+            (counters ++ (heaps_bytes heaps
+            ++ (little_bytes 2 (heap_number heap.dropped (length (keys ++ key ∷ []) + (left - 1)))
             ++ flat_map key_bytes (keys ++ key ∷ []))))
             (regroup counters (heaps_bytes heaps) count (flat_map key_bytes keys) (key_bytes key)
-            ∙ (λ i. counters ++ (heaps_bytes heaps ++ (little_bytes 2 (heap_number heap.dropped (same i)) ++ spelled i))))
-            (behind_more e v front (counters ++ (heaps_bytes heaps ++ (count ++ flat_map key_bytes keys))) (key_bytes key)
+            ∙ (λ i. counters ++ (heaps_bytes heaps
+            ++ (little_bytes 2 (heap_number heap.dropped (same i)) ++ spelled i))))
+            (behind_more e v front (counters ++ (heaps_bytes heaps ++ (count ++ flat_map key_bytes keys)))
+            (key_bytes key)
             at.filled.behind);
       }
 
@@ -129,9 +133,11 @@ module _ (e : ReplayHead) where
         });
         behind =
             behind_as e v front
-            (counters ++ (heaps_bytes heaps ++ (little_bytes 2 (heap_number heap.dropped (length heap.keys + 0)) ++ flat_map key_bytes heap.keys)))
+            (counters ++ (heaps_bytes heaps
+            ++ (little_bytes 2 (heap_number heap.dropped (length heap.keys + 0)) ++ flat_map key_bytes heap.keys)))
             (counters ++ heaps_bytes (heaps ++ heap ∷ []))
-            ((λ i. counters ++ (heaps_bytes heaps ++ (little_bytes 2 (heap_number heap.dropped (all i)) ++ flat_map key_bytes heap.keys)))
+            ((λ i. counters ++ (heaps_bytes heaps
+            ++ (little_bytes 2 (heap_number heap.dropped (all i)) ++ flat_map key_bytes heap.keys)))
             ∙ ap (λ (l : List ℕ). counters ++ l) (flat_map_more heap_bytes [] heaps heap)) is.behind;
       }
 

@@ -1,5 +1,5 @@
 -- The keys of a heap, and their bytes.
-use Rattle.std.proofs.Common.{◌≡◌, ◌<◌, ◌≤◌, ◌+◌, ◌*◌, ◌^◌, ℕ, List, [], ◌∷◌, ◌++◌, length, get_or, take, drop, true, refl, sym, ◌∙◌, ap, arith, length-drop}
+use Rattle.std.proofs.Common.{◌≡◌, ◌<◌, ◌≤◌, ◌+◌, ◌*◌, ◌^◌, ℕ, zero, suc, List, [], ◌∷◌, ◌++◌, length, flat_map, get_or, take, drop, true, refl, sym, ◌∙◌, ap, arith, length-drop}
 use Rattle.std.specs.List.{AllByRecursion}
 use Rattle.std.specs.List.Sorted.{IsStrictlySortedBy}
 use Rattle.std.specs.Cmp.Lexicographic.{slice_cmp}
@@ -57,43 +57,35 @@ word_bytes b at low within =
     (All-take (λ byte. byte < 256) 4 rest (All-drop (λ byte. byte < 256) at b low)) in
     (λ i. spelled i ++ sym (drop-drop 4 at b) i) ∙ take-append-drop 4 rest
 
-word_more : (b : List ℕ) (at : ℕ) (tail : List ℕ) → AreBytes b → at + 4 ≤ length b → tail ≡ drop (at + 4) b
-    → little_bytes 4 (word_at b at) ++ tail ≡ drop at b
-word_more b at tail low within is =
-    ap (λ (l : List ℕ). little_bytes 4 (word_at b at) ++ l) is ∙ word_bytes b at low within
+-- the words from a place on
+words_from : List ℕ → ℕ → ℕ → List ℕ
+words_from b at zero = []
+words_from b at (suc n) = word_at b at ∷ words_from b (at + 4) n
+
+words_bytes : (b : List ℕ) (at n : ℕ) → AreBytes b → at + 4 * n ≡ length b
+    → flat_map (little_bytes 4) (words_from b at n) ≡ drop at b
+unfolding words_from
+words_bytes b at zero low whole = sym (drop_all at b (omega (arith, whole)))
+words_bytes b at (suc n) low whole =
+    ap (λ (l : List ℕ). little_bytes 4 (word_at b at) ++ l) (words_bytes b (at + 4) n low (omega (arith, whole)))
+    ∙ word_bytes b at low (omega (arith, whole))
+
+words_low : (b : List ℕ) (at n : ℕ) → AreBytes b → AllByRecursion (λ word. word < 2 ^ 32) (words_from b at n)
+unfolding words_from word_at
+words_low b at zero low = tt
+words_low b at (suc n) low = (fits_4 (drop at b) (All-drop (λ byte. byte < 256) at b low), words_low b (at + 4) n low)
 
 pub bytes_read : (b : List ℕ) → length b ≡ 44 → AreBytes b → key_bytes (key_words b) ≡ b
-unfolding key_bytes key_words
-bytes_read b size low =
-    let t40 : List ℕ = little_bytes 4 (word_at b 40) ++ [] in
-    let t36 : List ℕ = little_bytes 4 (word_at b 36) ++ t40 in
-    let t32 : List ℕ = little_bytes 4 (word_at b 32) ++ t36 in
-    let t28 : List ℕ = little_bytes 4 (word_at b 28) ++ t32 in
-    let t24 : List ℕ = little_bytes 4 (word_at b 24) ++ t28 in
-    let t20 : List ℕ = little_bytes 4 (word_at b 20) ++ t24 in
-    let t16 : List ℕ = little_bytes 4 (word_at b 16) ++ t20 in
-    let t12 : List ℕ = little_bytes 4 (word_at b 12) ++ t16 in
-    let t8 : List ℕ = little_bytes 4 (word_at b 8) ++ t12 in
-    let t4 : List ℕ = little_bytes 4 (word_at b 4) ++ t8 in
-    let e40 : t40 ≡ drop 40 b = word_more b 40 [] low (omega (arith, size)) (sym (drop_all 44 b (omega (arith, size)))) in
-    let e36 : t36 ≡ drop 36 b = word_more b 36 t40 low (omega (arith, size)) (e40) in
-    let e32 : t32 ≡ drop 32 b = word_more b 32 t36 low (omega (arith, size)) (e36) in
-    let e28 : t28 ≡ drop 28 b = word_more b 28 t32 low (omega (arith, size)) (e32) in
-    let e24 : t24 ≡ drop 24 b = word_more b 24 t28 low (omega (arith, size)) (e28) in
-    let e20 : t20 ≡ drop 20 b = word_more b 20 t24 low (omega (arith, size)) (e24) in
-    let e16 : t16 ≡ drop 16 b = word_more b 16 t20 low (omega (arith, size)) (e20) in
-    let e12 : t12 ≡ drop 12 b = word_more b 12 t16 low (omega (arith, size)) (e16) in
-    let e8 : t8 ≡ drop 8 b = word_more b 8 t12 low (omega (arith, size)) (e12) in
-    let e4 : t4 ≡ drop 4 b = word_more b 4 t8 low (omega (arith, size)) (e8) in
-    word_more b 0 t4 low (omega (arith, size)) e4
-
-pub word_low : (b : List ℕ) (at : ℕ) → AreBytes b → word_at b at < 2 ^ 32
-unfolding word_at
-word_low b at low = fits_4 (drop at b) (All-drop (λ byte. byte < 256) at b low)
+unfolding key_bytes key_words words_from
+bytes_read b size low = words_bytes b 0 11 low (sym size)
 
 pub read_key : (b : List ℕ) → length b ≡ 44 → AreBytes b → is_valid (key_words b) ≡ true → IsKey (key_words b)
-unfolding key_words
-read_key b size low valid = record { size = refl; each = All-from_recursion (λ word. word < 2 ^ 32) (key_words b) (word_low b 0 low, (word_low b 4 low, (word_low b 8 low, (word_low b 12 low, (word_low b 16 low, (word_low b 20 low, (word_low b 24 low, (word_low b 28 low, (word_low b 32 low, (word_low b 36 low, (word_low b 40 low, tt))))))))))); valid = valid }
+unfolding key_words words_from
+read_key b size low valid = record {
+  size = refl;
+  each = All-from_recursion (λ word. word < 2 ^ 32) (key_words b) (words_low b 0 11 low);
+  valid = valid;
+}
 
 -- keys in ascending order
 abbrev pub AreAscending : List (List ℕ) → Type 0

@@ -43,13 +43,15 @@ pub number_right : (dropped : Bool) (count limit : ℕ) → count ≤ limit → 
     && (nat_lt (heap_number dropped count) 32768 || heap_number dropped count % 32768 == limit)) ≡ true
 number_right true count limit few small full =
     let rest : heap_number true count % 32768 ≡ count = number_rest true count (omega (arith, few, small)) in
-    and_from (nat_le (heap_number true count % 32768) limit) (nat_lt (count + 32768) 32768 || heap_number true count % 32768 == limit)
+    and_from (nat_le (heap_number true count % 32768) limit)
+    (nat_lt (count + 32768) 32768 || heap_number true count % 32768 == limit)
     (le-leb (heap_number true count % 32768) limit (omega (arith, rest, few)))
     (or_right (nat_lt (count + 32768) 32768) (heap_number true count % 32768 == limit)
     (eq-eqb (heap_number true count % 32768) limit (rest ∙ full refl)))
 number_right false count limit few small full =
     let rest : heap_number false count % 32768 ≡ count = number_rest false count (omega (arith, few, small)) in
-    and_from (nat_le (heap_number false count % 32768) limit) (nat_lt (count + 0) 32768 || heap_number false count % 32768 == limit)
+    and_from (nat_le (heap_number false count % 32768) limit)
+    (nat_lt (count + 0) 32768 || heap_number false count % 32768 == limit)
     (le-leb (heap_number false count % 32768) limit (omega (arith, rest, few)))
     (or_left (nat_lt (count + 0) 32768) (heap_number false count % 32768 == limit)
     (lt-ltb (count + 0) 32768 (omega (arith, few, small))))
@@ -74,25 +76,32 @@ module _ (e : ReplayHead) where
         (and_from (is_valid key) (is_above done key) is.valid above)
         ∙ ap (λ (m : ℕ). Ok (behind_key e cs heaps (heap_with dropped (done ++ key ∷ [])) m)) back
 
-    keys_on : (dropped : Bool) (done todo : List (List ℕ)) (rest : List ℕ) → All IsKey todo → AreAscending (done ++ todo)
-        → reached (replay_format e) (At (behind_key e cs heaps (heap_with dropped done) (length todo)) []) (flat_map key_bytes todo ++ rest)
+    keys_on : (dropped : Bool) (done todo : List (List ℕ)) (rest : List ℕ) → All IsKey todo
+        → AreAscending (done ++ todo)
+        → reached (replay_format e) (At (behind_key e cs heaps (heap_with dropped done) (length todo)) [])
+        (flat_map key_bytes todo ++ rest)
         ≡ reached (replay_format e) (At (behind_heap e cs (heaps ++ heap_with dropped (done ++ todo) ∷ [])) []) rest
     keys_on dropped done [] rest each sorted =
-        ap (λ (keys : List (List ℕ)). reached (replay_format e) (At (behind_heap e cs (heaps ++ heap_with dropped keys ∷ [])) []) rest)
+        ap (λ (keys : List (List ℕ)). reached (replay_format e)
+        (At (behind_heap e cs (heaps ++ heap_with dropped keys ∷ [])) []) rest)
         (sym (append-nil done))
     keys_on dropped done (key ∷ todo) rest each sorted =
         let tail : List ℕ = flat_map key_bytes todo ++ rest in
-        let grouped : AreAscending ((done ++ key ∷ []) ++ todo) = subst AreAscending (sym (append_assoc done (key ∷ []) todo)) sorted in
+        let grouped : AreAscending ((done ++ key ∷ []) ++ todo) =
+        subst AreAscending (sym (append_assoc done (key ∷ []) todo)) sorted in
         let is : IsKey key = All-head IsKey key todo each in
-        ap (λ (l : List ℕ). reached (replay_format e) (At (behind_key e cs heaps (heap_with dropped done) (suc (length todo))) []) l)
+        ap (λ (l : List ℕ). reached (replay_format e)
+        (At (behind_key e cs heaps (heap_with dropped done) (suc (length todo))) []) l)
         (append_assoc (key_bytes key) (flat_map key_bytes todo) rest)
-        ∙ ap (λ (p : Place). reached (replay_format e) (At p []) (key_bytes key ++ tail)) (key_left (heap_with dropped done) (length todo))
+        ∙ ap (λ (p : Place). reached (replay_format e) (At p []) (key_bytes key ++ tail))
+        (key_left (heap_with dropped done) (length todo))
         ∙ on e (HeapKey cs heaps (heap_with dropped done) (suc (length todo)))
         (behind_key e cs heaps (heap_with dropped (done ++ key ∷ [])) (length todo)) (key_bytes key) tail
         (length-key_bytes key ∙ ap (λ (n : ℕ). 4 * n) is.size)
         (key_ok dropped done key (length todo) is (above_next done key todo sorted))
         ∙ keys_on dropped (done ++ key ∷ []) todo rest (All-tail IsKey key todo each) grouped
-        ∙ ap (λ (keys : List (List ℕ)). reached (replay_format e) (At (behind_heap e cs (heaps ++ heap_with dropped keys ∷ [])) []) rest)
+        ∙ ap (λ (keys : List (List ℕ)). reached (replay_format e)
+        (At (behind_heap e cs (heaps ++ heap_with dropped keys ∷ [])) []) rest)
         (append_assoc done (key ∷ []) todo)
 
     length_ok : (heap : Heap) → AreWithin e.setting → IsHeap e.setting.heap heap
@@ -105,10 +114,13 @@ module _ (e : ReplayHead) where
         let small : e.setting.heap ≤ 1024 = small_heap e.setting within in
         let few : count ≤ 1024 = omega (arith, is.few, small) in
         ap (λ (k : ℕ). if_right (is_heap_length e k) faults.HeapLength
-        (behind_key e cs heaps (heap_with (nat_le 32768 k) []) (k % 32768))) (number_2 n (number_small heap.dropped count few))
-        ∙ right (is_heap_length e n) faults.HeapLength (behind_key e cs heaps (heap_with (nat_le 32768 n) []) (n % 32768))
+        (behind_key e cs heaps (heap_with (nat_le 32768 k) []) (k % 32768)))
+        (number_2 n (number_small heap.dropped count few))
+        ∙ right (is_heap_length e n) faults.HeapLength
+        (behind_key e cs heaps (heap_with (nat_le 32768 n) []) (n % 32768))
         (number_right heap.dropped count e.setting.heap is.few small is.full)
-        ∙ (λ i. Ok (behind_key e cs heaps (heap_with (number_dropped heap.dropped count few i) []) (number_rest heap.dropped count few i)))
+        ∙ (λ i. Ok (behind_key e cs heaps (heap_with (number_dropped heap.dropped count few i) [])
+        (number_rest heap.dropped count few i)))
 
     heap_on : (heap : Heap) (rest : List ℕ) → AreWithin e.setting → IsHeap e.setting.heap heap
         → reached (replay_format e) (At (HeapLength cs heaps) []) (heap_bytes heap ++ rest)
@@ -136,16 +148,20 @@ module _ (e : ReplayHead) where
       → reached (replay_format e) (At (HeapLength cs done) []) (flat_map heap_bytes (heap ∷ todo) ++ rest)
       ≡ reached (replay_format e) (At (End (record { counters = cs; heaps = done ++ heap ∷ todo })) []) rest
   heaps_on cs done [] heap rest within each size =
-      ap (λ (l : List ℕ). reached (replay_format e) (At (HeapLength cs done) []) (l ++ rest)) (append-nil (heap_bytes heap))
+      ap (λ (l : List ℕ). reached (replay_format e) (At (HeapLength cs done) []) (l ++ rest))
+      (append-nil (heap_bytes heap))
       ∙ heap_on cs done heap rest within (All-head (IsHeap e.setting.heap) heap [] each)
       ∙ ap (λ (p : Place). reached (replay_format e) (At p []) rest) (heaps_end cs (done ++ heap ∷ []) size)
   heaps_on cs done (next ∷ todo) heap rest within each size =
       let more : List ℕ = flat_map heap_bytes (next ∷ todo) in
-      let grouped : (done ++ heap ∷ []) ++ next ∷ todo ≡ done ++ heap ∷ next ∷ todo = append_assoc done (heap ∷ []) (next ∷ todo) in
-      ap (λ (l : List ℕ). reached (replay_format e) (At (HeapLength cs done) []) l) (append_assoc (heap_bytes heap) more rest)
+      let grouped : (done ++ heap ∷ []) ++ next ∷ todo ≡ done ++ heap ∷ next ∷ todo =
+      append_assoc done (heap ∷ []) (next ∷ todo) in
+      ap (λ (l : List ℕ). reached (replay_format e) (At (HeapLength cs done) []) l)
+      (append_assoc (heap_bytes heap) more rest)
       ∙ heap_on cs done heap (more ++ rest) within (All-head (IsHeap e.setting.heap) heap (next ∷ todo) each)
       ∙ ap (λ (p : Place). reached (replay_format e) (At p []) (more ++ rest)) (heaps_go_on cs (done ++ heap ∷ [])
       (omega (arith, size, length-append done (heap ∷ next ∷ todo), length-append done (heap ∷ []))))
       ∙ heaps_on cs (done ++ heap ∷ []) todo next rest within (All-tail (IsHeap e.setting.heap) heap (next ∷ todo) each)
       (ap length grouped ∙ size)
-      ∙ ap (λ (l : List Heap). reached (replay_format e) (At (End (record { counters = cs; heaps = l })) []) rest) grouped
+      ∙ ap (λ (l : List Heap). reached (replay_format e) (At (End (record { counters = cs; heaps = l })) []) rest)
+      grouped

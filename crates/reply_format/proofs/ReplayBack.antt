@@ -55,7 +55,8 @@ module _ (e : ReplayHead) (within : AreWithin e.setting) where
       subst (λ (n : ℕ). Says e (if n == 1 then Counter [] else RowCount []) front) (sym one) (record {
         each = All-nil (IsCounter e.weight);
         few = counters_some e within;
-        behind = behind_as e 1 front [] (dense_bytes []) (sym dense-none) (subst (λ (n : ℕ). Behind e n front []) one is);
+        behind = behind_as e 1 front [] (dense_bytes []) (sym dense-none)
+            (subst (λ (n : ℕ). Behind e n front []) one is);
       })
   body_says v front (inr two) is =
       subst (λ (n : ℕ). Says e (if n == 1 then Counter [] else RowCount []) front) (sym two) (record {
@@ -79,7 +80,8 @@ module _ (e : ReplayHead) (within : AreWithin e.setting) where
 
   -- a bucket of version 2, and its counter
   bucket_step : (cs : List ℤ) (from left n : ℕ) (front : List ℕ) → from ≤ n → n < e.setting.width
-      → AtBucket e cs from left front → AtValue e (cs ++ zeros (n - from)) (n + 1) (left - 1) (front ++ little_bytes 2 n)
+      → AtBucket e cs from left front
+      → AtValue e (cs ++ zeros (n - from)) (n + 1) (left - 1) (front ++ little_bytes 2 n)
   bucket_step cs from left n front above inside is =
       let to : from + (n - from) ≡ n + 1 - 1 = omega (arith, above) in
       let same : n ≡ n + 1 - 1 = omega arith in
@@ -130,7 +132,8 @@ module _ (e : ReplayHead) (within : AreWithin e.setting) where
       (λ yes. head_on v front [] b (e.setting.levels ∷ []) (byte_same b e.setting.levels size yes) is) ok
   step (Rows v) t front b is low size ok =
       right_only (λ p. Says e p (front ++ b)) (get_or b 0 0 == e.setting.rows) faults.Shape (Width v) t
-      (λ yes. head_on v front (e.setting.levels ∷ []) b (e.setting.rows ∷ []) (byte_same b e.setting.rows size yes) is) ok
+      (λ yes. head_on v front (e.setting.levels ∷ []) b (e.setting.rows ∷ []) (byte_same b e.setting.rows size yes)
+      is) ok
   step (Width v) t front b is low size ok =
       right_only (λ p. Says e p (front ++ b)) (little_number 2 b == e.setting.width) faults.Shape (HeapSize v) t
       (λ yes. head_on v front (e.setting.levels ∷ e.setting.rows ∷ []) b (little_bytes 2 e.setting.width)
@@ -174,11 +177,13 @@ module _ (e : ReplayHead) (within : AreWithin e.setting) where
       (value_says e within cs 0 (little_number 2 b) (front ++ little_bytes 2 (little_number 2 b))
       (row_start e within cs (little_number 2 b) front is))) ok
   step (Bucket cs from left) t front b is low size ok =
-      right_only (λ p. Says e p (front ++ b)) (nat_le from (little_number 2 b) && nat_lt (little_number 2 b) e.setting.width)
+      right_only (λ p. Says e p (front ++ b))
+      (nat_le from (little_number 2 b) && nat_lt (little_number 2 b) e.setting.width)
       faults.CounterPlace (Value (cs ++ zeros (little_number 2 b - from)) (little_number 2 b + 1) (left - 1)) t
       (λ yes.
       let parts = and_parts (nat_le from (little_number 2 b)) (nat_lt (little_number 2 b) e.setting.width) yes in
-      subst (λ (l : List ℕ). AtValue e (cs ++ zeros (little_number 2 b - from)) (little_number 2 b + 1) (left - 1) (front ++ l))
+      subst (λ (l : List ℕ). AtValue e (cs ++ zeros (little_number 2 b - from)) (little_number 2 b + 1) (left - 1)
+      (front ++ l))
       (bytes_2 b size low)
       (bucket_step cs from left (little_number 2 b) front (leb-true from (little_number 2 b) parts.0)
       (ltb-true (little_number 2 b) e.setting.width parts.1) is)) ok
@@ -188,9 +193,11 @@ module _ (e : ReplayHead) (within : AreWithin e.setting) where
       (behind_value e (cs ++ signed b ∷ []) from left) t
       (λ yes.
       let parts = and_parts (nat_lt 0 (little_number 8 b)) (nat_le (magnitude (little_number 8 b)) e.weight) yes in
-      subst (λ (l : List ℕ). Says e (behind_value e (cs ++ signed b ∷ []) from left) (front ++ l)) (signed_bytes b size low)
+      subst (λ (l : List ℕ). Says e (behind_value e (cs ++ signed b ∷ []) from left) (front ++ l))
+      (signed_bytes b size low)
       (value_says e within (cs ++ signed b ∷ []) from left (front ++ counter_bytes (signed b))
-      (value_step cs from left (signed b) front (signed_counter e.weight b low parts.1) (signed_some b low parts.0) is))) ok
+      (value_step cs from left (signed b) front (signed_counter e.weight b low parts.1) (signed_some b low parts.0)
+      is))) ok
   step (HeapLength cs heaps) t front b is low size ok =
       right_only (λ p. Says e p (front ++ b)) (is_heap_length e (little_number 2 b)) faults.HeapLength
       (behind_key e cs heaps (heap_with (nat_le 32768 (little_number 2 b)) []) (little_number 2 b % 32768)) t
@@ -201,13 +208,16 @@ module _ (e : ReplayHead) (within : AreWithin e.setting) where
       (front ++ little_bytes 2 (little_number 2 b))
       (heap_start e cs heaps (little_number 2 b) front (fits_2 b low) yes is))) ok
   step (HeapKey cs heaps heap left) t front b is low size ok =
-      right_only (λ p. Says e p (front ++ b)) (is_valid (key_words b) && is_above heap.keys (key_words b)) faults.HeapOrder
+      right_only (λ p. Says e p (front ++ b)) (is_valid (key_words b) && is_above heap.keys (key_words b))
+      faults.HeapOrder
       (behind_key e cs heaps (heap_with heap.dropped (heap.keys ++ key_words b ∷ [])) (left - 1)) t
       (λ yes.
       let parts = and_parts (is_valid (key_words b)) (is_above heap.keys (key_words b)) yes in
-      subst (λ (l : List ℕ). Says e (behind_key e cs heaps (heap_with heap.dropped (heap.keys ++ key_words b ∷ [])) (left - 1))
+      subst (λ (l : List ℕ). Says e (behind_key e cs heaps (heap_with heap.dropped (heap.keys ++ key_words b ∷ []))
+      (left - 1))
       (front ++ l)) (bytes_read b size low)
-      (key_says e cs heaps (heap_with heap.dropped (heap.keys ++ key_words b ∷ [])) (left - 1) (front ++ key_bytes (key_words b))
+      (key_says e cs heaps (heap_with heap.dropped (heap.keys ++ key_words b ∷ [])) (left - 1)
+      (front ++ key_bytes (key_words b))
       (heap_key e cs heaps heap left front (key_words b) (read_key b size low parts.0) parts.1 is))) ok
   step (End body) t front b is low size ok = absurd (cc)
 
@@ -216,6 +226,8 @@ pub replay_back : (e : ReplayHead) (bytes : List ℕ) (body : Body) → IsExpect
     → reached (replay_format e) (At replays.Magic []) bytes ≡ At (replays.End body) []
     → SpellsReply (Replay (record { head = e; counters = body.counters; heaps = body.heaps })) bytes
 replay_back e bytes body within low is =
-    let keeps : KeepsBytes (replay_format e) (Says e) = record { on = λ s t front b says low size ok. step e within s t front b says low size ok } in
-    let found = reached_says_bytes (replay_format e) (Says e) (replay_takes e) keeps replays.Magic (replays.End body) bytes [] low refl is in
+    let keeps : KeepsBytes (replay_format e) (Says e) =
+    record { on = λ s t front b says low size ok. step e within s t front b says low size ok } in
+    let found = reached_says_bytes (replay_format e) (Says e) (replay_takes e) keeps replays.Magic (replays.End body)
+    bytes [] low refl is in
     subst (λ (l : List ℕ). Says e (End body) l) (sym (found.1.0 ∙ append-nil found.0)) found.1.1

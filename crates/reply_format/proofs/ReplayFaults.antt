@@ -41,12 +41,14 @@ judged_tells e (Kind v) b fault is = wrong_only Tells (get_or b 0 0 == 0) faults
 judged_tells e (Number v) b fault is = wrong_only Tells (little_number 4 b == e.number) faults.Job _ fault TellsJob is
 judged_tells e (Levels v) b fault is =
     wrong_only Tells (get_or b 0 0 == e.setting.levels) faults.Shape _ fault TellsShape is
-judged_tells e (Rows v) b fault is = wrong_only Tells (get_or b 0 0 == e.setting.rows) faults.Shape _ fault TellsShape is
+judged_tells e (Rows v) b fault is =
+    wrong_only Tells (get_or b 0 0 == e.setting.rows) faults.Shape _ fault TellsShape is
 judged_tells e (Width v) b fault is =
     wrong_only Tells (little_number 2 b == e.setting.width) faults.Shape _ fault TellsShape is
 judged_tells e (HeapSize v) b fault is =
     wrong_only Tells (little_number 2 b == e.setting.heap) faults.Shape _ fault TellsShape is
-judged_tells e (Items v) b fault is = wrong_only Tells (little_number 4 b == e.items) faults.Totals _ fault TellsTotals is
+judged_tells e (Items v) b fault is =
+    wrong_only Tells (little_number 4 b == e.items) faults.Totals _ fault TellsTotals is
 judged_tells e (Weight v) b fault is =
     wrong_only Tells (little_number 8 b == e.weight) faults.Totals _ fault TellsTotals is
 judged_tells e (Counter cs) b fault is =

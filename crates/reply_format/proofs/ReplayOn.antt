@@ -92,6 +92,7 @@ pub replay_on : (reply : ReplayReply) (version : ℕ) → IsReplayReply reply �
     → reached (replay_format reply.head) (At replays.Magic []) (replay_bytes version reply)
     ≡ At (replays.End (record { counters = reply.counters; heaps = reply.heaps })) []
 replay_on reply version is known =
-    head_on reply.head version (counters_bytes version reply.head.setting reply.counters ++ heaps_bytes reply.heaps) is.head known
+    head_on reply.head version (counters_bytes version reply.head.setting reply.counters ++ heaps_bytes reply.heaps)
+    is.head known
     ∙ counters_on reply.head version reply.counters (heaps_bytes reply.heaps) known is.head.within is.number is.counters
     ∙ heaps_whole reply.head reply.counters reply.heaps is.head.within is.heaps is.levels

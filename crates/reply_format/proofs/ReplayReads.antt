@@ -7,7 +7,7 @@ use Rattle.reply_format.specs.Places.{replay_format, Body, Place}
 use Rattle.reply_format.specs.Places.{Magic, Version, Kind, Number, Levels, Rows, Width, HeapSize, Items, Weight, Counter, RowCount, Bucket, Value, HeapLength, HeapKey, End}
 use Rattle.reply_format.specs.Places as replays
 use Rattle.reply_format.specs.Read.{BreaksReplay, ReadsReply, is_end}
-use Rattle.reply_format.specs.Reply.{ReplayHead, Reply, Replay, Solve, ExpectReplay, IsExpect, replay_bytes}
+use Rattle.reply_format.specs.Reply.{ReplayHead, Reply, Replay, Solve, ExpectReplay, IsExpect, SpellsReply, replay_bytes}
 use Rattle.reply_format.specs.declared.fault.ReplyFault.{ReplyFault}
 use Rattle.reply_format.specs.declared.fault.ReplyFault.TheVariants as faults
 use Rattle.reply_format.proofs.ReplayBack.{replay_back}
@@ -87,9 +87,11 @@ module _ (e : ReplayHead) where
       let body : Body = record { counters = reply.counters; heaps = reply.heaps } in
       let there : reached (replay_format e) (At replays.Magic []) bytes ≡ At (End body) [] =
       ap (λ (l : List ℕ). reached (replay_format e) (At replays.Magic []) l) is.1.parts
-      ∙ subst (λ h. reached (replay_format h) (At replays.Magic []) (replay_bytes is.1.version reply) ≡ At (End body) []) is.0
+      ∙ subst (λ h. reached (replay_format h) (At replays.Magic []) (replay_bytes is.1.version reply) ≡ At (End body)
+      []) is.0
       (replay_on reply is.1.version is.1.within is.1.known) in
-      (λ i. Ok (Replay (record { head = is.0 i; counters = reply.counters; heaps = reply.heaps }))) ∙ ap read_there (sym there)
+      (λ i. Ok (Replay (record { head = is.0 i; counters = reply.counters; heaps = reply.heaps })))
+      ∙ ap read_there (sym there)
   replay_known bytes (Ok (Solve reply)) is = absurd is.0
   replay_known bytes (Err fault) is = breach_known bytes fault is
 
@@ -110,10 +112,13 @@ module _ (e : ReplayHead) where
             let at : reached (replay_format e) (At replays.Magic []) bytes ≡ At (End body) part =
             is ∙ ap (λ (p : Place). At p part) ended.1 in
             let none : part ≡ [] = replay_end_part e body bytes part at in
-            (Ok (whole body), (refl, replay_back e bytes body within low (at ∙ ap (λ (l : List ℕ). At (End body) l) none)))
+            let spells : SpellsReply (whole body) bytes =
+            replay_back e bytes body within low (at ∙ ap (λ (l : List ℕ). At (End body) l) none) in
+            (Ok (whole body), (refl, spells))
       ]
 
   -- and always as one
   pub replay_always : (bytes : List ℕ) → IsExpect (ExpectReplay e) → All (λ byte. byte < 256) bytes
       → (read : Result Reply ReplyFault) × ReadsReply (ExpectReplay e) bytes read
-  replay_always bytes within low = there_always bytes (reached (replay_format e) (At replays.Magic []) bytes) within low refl
+  replay_always bytes within low =
+      there_always bytes (reached (replay_format e) (At replays.Magic []) bytes) within low refl

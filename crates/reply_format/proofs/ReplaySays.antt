@@ -128,7 +128,8 @@ module _ (e : ReplayHead) where
   Says (Width v) front = AtHead v front (e.setting.levels ∷ e.setting.rows ∷ [])
   Says (HeapSize v) front = AtHead v front (e.setting.levels ∷ e.setting.rows ∷ little_bytes 2 e.setting.width)
   Says (Items v) front =
-      AtHead v front (e.setting.levels ∷ e.setting.rows ∷ (little_bytes 2 e.setting.width ++ little_bytes 2 e.setting.heap))
+      AtHead v front (e.setting.levels ∷ e.setting.rows ∷ (little_bytes 2 e.setting.width ++ little_bytes 2
+      e.setting.heap))
   Says (Weight v) front =
       (e.items < 2 ^ 32) × AtHead v front (e.setting.levels ∷ e.setting.rows
       ∷ (little_bytes 2 e.setting.width ++ (little_bytes 2 e.setting.heap ++ little_bytes 4 e.items)))

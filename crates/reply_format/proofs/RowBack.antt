@@ -89,8 +89,10 @@ module _ (e : ReplayHead) (within : AreWithin e.setting) where
         each = All-append (IsCounter e.weight) all (zeros k) is.each (zero_counters e.weight k);
         behind =
             behind_as e 2 front _ (sparse_bytes is.rows e.setting.width is.cs
-            ++ (little_bytes 2 (nonzero_count (is.row ++ zeros k) + left) ++ (entries_bytes 0 (is.row ++ zeros k) ++ tail)))
-            (λ i. sparse_bytes is.rows e.setting.width is.cs ++ (little_bytes 2 (none i) ++ (same i ++ tail))) is.behind;
+            ++ (little_bytes 2 (nonzero_count (is.row ++ zeros k) + left)
+            ++ (entries_bytes 0 (is.row ++ zeros k) ++ tail)))
+            (λ i. sparse_bytes is.rows e.setting.width is.cs ++ (little_bytes 2 (none i) ++ (same i ++ tail)))
+            is.behind;
       }
 
   -- bytes more
@@ -110,8 +112,10 @@ module _ (e : ReplayHead) (within : AreWithin e.setting) where
         let rows : List ℕ = sparse_bytes is.rows e.setting.width is.cs in
         let count : List ℕ = little_bytes 2 (nonzero_count is.row + left) in
         let entries : List ℕ = entries_bytes 0 is.row in
-        behind_as e 2 (front ++ more) ((rows ++ (count ++ (entries ++ []))) ++ more) (rows ++ (count ++ (entries ++ more)))
-        (regroup rows count entries [] more) (behind_more e 2 front (rows ++ (count ++ (entries ++ []))) more is.behind);
+        behind_as e 2 (front ++ more) ((rows ++ (count ++ (entries ++ []))) ++ more)
+        (rows ++ (count ++ (entries ++ more)))
+        (regroup rows count entries [] more)
+        (behind_more e 2 front (rows ++ (count ++ (entries ++ []))) more is.behind);
   }
 
   -- the counter that was left
@@ -144,7 +148,8 @@ module _ (e : ReplayHead) (within : AreWithin e.setting) where
         behind =
             behind_as e 2 (front ++ counter_bytes c)
             ((rows ++ (count ++ (entries ++ little_bytes 2 n))) ++ counter_bytes c)
-            (rows ++ (little_bytes 2 (nonzero_count (is.row ++ c ∷ []) + left) ++ (entries_bytes 0 (is.row ++ c ∷ []) ++ [])))
+            (rows ++ (little_bytes 2 (nonzero_count (is.row ++ c ∷ []) + left)
+            ++ (entries_bytes 0 (is.row ++ c ∷ []) ++ [])))
             (regroup rows count entries (little_bytes 2 n) (counter_bytes c)
             ∙ (λ i. rows ++ (little_bytes 2 (one i) ++ spelled i)))
             (behind_more e 2 front (rows ++ (count ++ (entries ++ little_bytes 2 n))) (counter_bytes c) is.behind);
@@ -158,7 +163,8 @@ module _ (e : ReplayHead) (within : AreWithin e.setting) where
       let entries : List ℕ = entries_bytes 0 is.row in
       let none : nonzero_count is.row + 0 ≡ nonzero_count is.row = omega arith in
       let row_size : length is.row ≡ e.setting.width = is.here ∙ whole in
-      let spelled : rows ++ (little_bytes 2 (nonzero_count is.row + 0) ++ (entries ++ [])) ≡ sparse_bytes (is.rows + 1) e.setting.width all =
+      let spelled : rows ++ (little_bytes 2 (nonzero_count is.row + 0) ++ (entries ++ [])) ≡ sparse_bytes
+      (is.rows + 1) e.setting.width all =
       (λ i. rows ++ (little_bytes 2 (none i) ++ append-nil entries i))
       ∙ sym (sparse-more is.rows e.setting.width is.cs is.row is.size row_size)
       ∙ ap (λ (l : List ℤ). sparse_bytes (is.rows + 1) e.setting.width l) (sym is.parts) in

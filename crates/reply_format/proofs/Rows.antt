@@ -20,7 +20,8 @@ unfolding entries_bytes
 entries-append bucket [] ys = ap (λ (n : ℕ). entries_bytes n ys) (omega arith)
 entries-append bucket (x ∷ xs) ys =
     ap (λ (l : List ℕ). entry_bytes bucket x ++ l) (entries-append (bucket + 1) xs ys)
-    ∙ sym (append_assoc (entry_bytes bucket x) (entries_bytes (bucket + 1) xs) (entries_bytes (bucket + 1 + length xs) ys))
+    ∙ sym (append_assoc (entry_bytes bucket x) (entries_bytes (bucket + 1) xs)
+    (entries_bytes (bucket + 1 + length xs) ys))
     ∙ ap (λ (n : ℕ). (entry_bytes bucket x ++ entries_bytes (bucket + 1) xs) ++ entries_bytes n ys) (omega arith)
 
 pub entries-zeros : (bucket n : ℕ) → entries_bytes bucket (zeros n) ≡ []
@@ -98,6 +99,7 @@ pub dense-none : dense_bytes [] ≡ []
 unfolding dense_bytes
 dense-none = refl
 
-pub dense-more : (counters : List ℤ) (c : ℤ) → dense_bytes (counters ++ c ∷ []) ≡ dense_bytes counters ++ counter_bytes c
+pub dense-more : (counters : List ℤ) (c : ℤ)
+    → dense_bytes (counters ++ c ∷ []) ≡ dense_bytes counters ++ counter_bytes c
 unfolding dense_bytes
 dense-more counters c = sym (flat_map_more counter_bytes [] counters c)

@@ -98,7 +98,8 @@ module _ (number : ℕ) where
   site_exact : (front sites : List ℕ) (site left : ℕ) → IsSited number front sites left → site < 32
       → Exact number (behind_site (sites ++ site ∷ []) left) (front ++ site ∷ [])
   site_exact front sites site left is low =
-      let sited : IsFronted number (front ++ site ∷ []) (0 ∷ (length (sites ++ site ∷ []) + (left - 1)) ∷ (sites ++ site ∷ [])) =
+      let sited : IsFronted number (front ++ site ∷ [])
+      (0 ∷ (length (sites ++ site ∷ []) + (left - 1)) ∷ (sites ++ site ∷ [])) =
       one_site front sites site left is in
       let each : All (λ s. s < 32) (sites ++ site ∷ []) = All-push (λ s. s < 32) sites site is.each low in
       cond_both (nat_le left 1) (Tree (Placed (sites ++ site ∷ []))) (Site (sites ++ site ∷ []) (left - 1))
@@ -181,7 +182,8 @@ module _ (number : ℕ) where
       → length b ≡ place_size s → judge_place number s b ≡ Ok t → Loose t (front ++ b)
   unfolding judge_place
   loose_on s t front b false inside is low size ok =
-      let exact : front ≡ is.exact = is.parts ∙ ap (λ (l : List ℕ). is.exact ++ l) (is.none inside) ∙ append-nil is.exact in
+      let exact : front ≡ is.exact = is.parts ∙ ap (λ (l : List ℕ). is.exact ++ l) (is.none inside)
+      ∙ append-nil is.exact in
       record {
         exact = front ++ b;
         rest = [];

@@ -75,7 +75,8 @@ module _ (number : ℕ) where
   sites_on done (next ∷ todo) rest site each =
       let left : length (next ∷ todo) + 1 ≡ length todo + 2 = omega arith in
       ap (λ (n : ℕ). reached (solve_format number) (At (Site done n) []) ((site ∷ next ∷ todo) ++ rest)) left
-      ∙ on (Site done (length todo + 2)) (Site (done ++ site ∷ []) (length todo + 1)) (site ∷ []) ((next ∷ todo) ++ rest) refl
+      ∙ on (Site done (length todo + 2)) (Site (done ++ site ∷ []) (length todo + 1)) (site ∷ [])
+      ((next ∷ todo) ++ rest) refl
       (site_ok done site (length todo + 2) (All-head (λ s. s < 32) site (next ∷ todo) each)
       ∙ ap (λ (p : Place). Ok p) (more_sites (done ++ site ∷ []) (length todo)))
       ∙ sites_on (done ++ site ∷ []) todo rest next (All-tail (λ s. s < 32) site (next ∷ todo) each)

@@ -164,7 +164,8 @@ module _ (number : ℕ) where
       let found : Found = found_of reply.outcome in
       let spelled : List ℕ = bytes_of tree in
       let none : drop (length spelled) spelled ≡ [] = drop_all (length spelled) spelled (omega arith) in
-      let past : nat_lt (length spelled) (length spelled) ≡ false = le-ltb (length spelled) (length spelled) (omega arith) in
+      let past : nat_lt (length spelled) (length spelled) ≡ false =
+      le-ltb (length spelled) (length spelled) (omega arith) in
       inr (record {
         fits = subst (λ (n : ℕ). n < 2 ^ 32) answers spells.within.number;
         version = spells.version;
@@ -211,7 +212,8 @@ module _ (number : ℕ) where
   behind_once : (bytes : List ℕ) (read other : Result Reply ReplyFault) → IsBehind bytes read → IsBehind bytes other
       → read ≡ other
   behind_once bytes read other a b =
-      let found : a.found ≡ b.found = same_found a.found b.found (sym (behind_at bytes read a) ∙ behind_at bytes other b) in
+      let found : a.found ≡ b.found =
+      same_found a.found b.found (sym (behind_at bytes read a) ∙ behind_at bytes other b) in
       let tails : found_bytes a.found ++ a.rest ≡ found_bytes b.found ++ b.rest =
       (same_fronts (front_bytes a.version 1 number) (front_bytes b.version 1 number) (found_bytes a.found ++ a.rest)
       (found_bytes b.found ++ b.rest) refl (sym a.parts ∙ b.parts)).1 in

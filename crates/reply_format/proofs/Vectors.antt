@@ -78,6 +78,7 @@ far_bucket : reached (replay_format empty_job) (At Magic []) (head 2 ++ (1 ∷ 0
 unfolding empty_job head eight reached onward judge_place
 far_bucket = refl
 
-dropped_early : reached (replay_format empty_job) (At Magic []) (head 2 ++ (0 ∷ 0 ∷ 0 ∷ 128 ∷ [])) ≡ Broken faults.HeapLength
+dropped_early : reached (replay_format empty_job) (At Magic []) (head 2 ++ (0 ∷ 0 ∷ 0 ∷ 128 ∷ [])) ≡ Broken
+    faults.HeapLength
 unfolding empty_job head reached onward judge_place
 dropped_early = refl
