@@ -8,6 +8,7 @@ pub mod Judged
 pub mod Limits
 pub mod Numbers
 pub mod OneRead
+pub mod OutcomeParts
 pub mod ReplayBack
 pub mod ReplayFaults
 pub mod ReplayFields
@@ -20,4 +21,5 @@ pub mod SolveBack
 pub mod SolveFaults
 pub mod SolveOn
 pub mod SolveReads
+pub mod SolveRest
 pub mod Vectors

@@ -1,16 +1,16 @@
 -- Rows of counters, and their bytes.
-use Rattle.std.proofs.Common.{◌≡◌, ◌≤◌, ◌+◌, ◌*◌, ℕ, zero, suc, List, [], ◌∷◌, ◌++◌, length, take, drop, Bool, false, not, refl, sym, ◌∙◌, ap, arith, ℤ, pos, append_assoc, append-nil}
+use Rattle.std.proofs.Common.{◌≡◌, ◌<◌, ◌≤◌, ◌+◌, ◌*◌, ℕ, zero, suc, List, [], ◌∷◌, ◌++◌, length, get_or, take, drop, Bool, false, not, refl, sym, ◌∙◌, ap, arith, ℤ, pos, append_assoc, append-nil}
 use Rattle.std.specs.Prelude.{if◌then◌else◌}
 use Rattle.std.specs.List.{flat_map, range_with_len}
 use Rattle.std.specs.Ordering.{int_eq}
-use Rattle.std.proofs.lemmas.List.{take_all, drop_at, length-drop, take-append-le, drop-append-le, flat_map_more}
+use Rattle.std.proofs.lemmas.List.{length-take-le, take_more, take_all, drop_at, length-drop, take-append-le, drop-append-le, flat_map_more}
 use Rattle.std.proofs.lemmas.List.Sums.{sum_by-append}
 use Rattle.byteorder.specs.Endian.{little_bytes}
 use Rattle.reply_format.specs.Places.{zeros}
 use Rattle.reply_format.specs.Reply.{counter_bytes, dense_bytes, entries_bytes, nonzero_count, row_bytes, row_at, sparse_bytes}
 
 -- the bytes of a counter of a row
-abbrev entry_bytes : ℕ → ℤ → List ℕ
+abbrev pub entry_bytes : ℕ → ℤ → List ℕ
 entry_bytes bucket c = if int_eq c (pos 0) then [] else little_bytes 2 bucket ++ counter_bytes c
 
 -- a row in two parts
@@ -23,6 +23,17 @@ entries-append bucket (x ∷ xs) ys =
     ∙ sym (append_assoc (entry_bytes bucket x) (entries_bytes (bucket + 1) xs)
     (entries_bytes (bucket + 1 + length xs) ys))
     ∙ ap (λ (n : ℕ). (entry_bytes bucket x ++ entries_bytes (bucket + 1) xs) ++ entries_bytes n ys) (omega arith)
+
+-- the counters up to the next
+pub entries-take : (row : List ℤ) (k : ℕ) (d : ℤ) → k < length row
+    → entries_bytes 0 (take (k + 1) row) ≡ entries_bytes 0 (take k row) ++ entry_bytes k (get_or row k d)
+unfolding entries_bytes
+entries-take row k d here =
+    let size : 0 + length (take k row) ≡ k = omega (arith, length-take-le k row (omega (arith, here))) in
+    ap (λ (l : List ℤ). entries_bytes 0 l) (take_more row k d here)
+    ∙ entries-append 0 (take k row) (get_or row k d ∷ [])
+    ∙ ap (λ (n : ℕ). entries_bytes 0 (take k row) ++ entries_bytes n (get_or row k d ∷ [])) size
+    ∙ ap (λ (l : List ℕ). entries_bytes 0 (take k row) ++ l) (append-nil (entry_bytes k (get_or row k d)))
 
 pub entries-zeros : (bucket n : ℕ) → entries_bytes bucket (zeros n) ≡ []
 unfolding entries_bytes
@@ -82,6 +93,17 @@ rows_push f from (suc rows) =
     ∙ sym (append_assoc (f from) (flat_map f (range_with_len (from + 1) rows)) (f (from + 1 + rows)))
     ∙ ap (λ (n : ℕ). (f from ++ flat_map f (range_with_len (from + 1) rows)) ++ f n) last
 
+-- the rows up to the next
+pub sparse-next : (rows width : ℕ) (counters : List ℤ)
+    → sparse_bytes (rows + 1) width counters ≡ sparse_bytes rows width counters ++ row_bytes (row_at width counters rows)
+unfolding sparse_bytes
+sparse-next rows width counters =
+    let at : 0 + rows ≡ rows = omega arith in
+    rows_push (λ r. row_bytes (row_at width counters r)) 0 rows
+    ∙ ap (λ (n : ℕ). flat_map (λ r. row_bytes (row_at width counters r)) (range_with_len 0 rows)
+    ++ row_bytes (row_at width counters n)) at
+
+-- rows, and one behind them
 pub sparse-more : (rows width : ℕ) (counters row : List ℤ) → length counters ≡ rows * width → length row ≡ width
     → sparse_bytes (rows + 1) width (counters ++ row) ≡ sparse_bytes rows width counters ++ row_bytes row
 unfolding sparse_bytes

@@ -1,12 +1,9 @@
 -- What the bytes of a solve reply are read as: always one thing, and never two.
-use Rattle.std.proofs.Common.{◌≡◌, ◌<◌, ◌^◌, ℕ, List, [], ◌++◌, length, drop, All, Bool, true, false, Result, Ok, Err, if◌then◌else◌, inl, inr, ◌⊎◌, refl, sym, ◌∙◌, ap, subst, arith, append-nil, append_assoc}
-use Rattle.std.specs.Prelude.{IsTrue, nat_lt}
+use Rattle.std.proofs.Common.{◌≡◌, ◌<◌, ◌^◌, ℕ, List, [], ◌++◌, length, drop, All, Bool, true, false, Result, Ok, Err, if◌then◌else◌, inl, inr, ◌⊎◌, refl, sym, ◌∙◌, ap, subst, arith, append-nil}
+use Rattle.std.specs.Prelude.{nat_lt}
 use Rattle.std.proofs.lemmas.Bool.{true≢false, cases_lt, lt-ltb, le-ltb}
 use Rattle.std.proofs.lemmas.List.{drop_all}
-use Rattle.bound_certificate.specs.Formed.{is_formed}
 use Rattle.bound_certificate.specs.Outcome.{tree_of}
-use Rattle.bound_certificate.specs.declared.outcome.Outcome.{Outcome}
-use Rattle.bound_certificate.specs.declared.outcome.Outcome.TheVariants as outcomes
 use Rattle.bound_certificate.specs.declared.tree.Tree.{Tree}
 use Rattle.byte_format.specs.Format.{At, Broken, Breaks, Reached, reached}
 use Rattle.byte_format.proofs.Formats.{all_right, breaks-reached, ends-reached}
@@ -21,54 +18,14 @@ use Rattle.reply_format.specs.Outcomes.{Found, Placed, Infeasible, Spent, Place,
 use Rattle.reply_format.specs.Outcomes.{Magic, Version, Kind, Number, Outcome as OutcomePlace, Count, Site, Tree as TreePlace}
 use Rattle.reply_format.specs.Outcomes as solves
 use Rattle.reply_format.specs.Read.{BreaksSolve, HasRest, IsFound, IsNoTree, GoesOn, ReadsReply, found_bytes}
-use Rattle.reply_format.specs.Reply.{Reply, Replay, Solve, SolveReply, ExpectSolve, HasWritten, IsVersion, SpellsReply, front_bytes, outcome_bytes}
+use Rattle.reply_format.specs.Reply.{Reply, Replay, Solve, SolveReply, ExpectSolve, IsVersion, SpellsReply, front_bytes}
 use Rattle.reply_format.specs.declared.fault.ReplyFault.{ReplyFault}
 use Rattle.reply_format.specs.declared.fault.ReplyFault.TheVariants as faults
-use Rattle.reply_format.proofs.SolveBack.{IsFront, front_rest, solve_rest_back}
+use Rattle.reply_format.proofs.OutcomeParts.{found_of, found_written, outcome_of, outcome_parts, outcome_spelled}
+use Rattle.reply_format.proofs.SolveBack.{IsFront, solve_rest_back}
 use Rattle.reply_format.proofs.SolveFaults.{solve_breach, solve_short}
+use Rattle.reply_format.proofs.SolveRest.{rest_short, rest_shape, rest_extra, rest_whole}
 use Rattle.reply_format.proofs.SolveOn.{solve_takes, solve_front_on, solve_tree_on}
-
--- an outcome in two parts
-abbrev pub found_of : Outcome → Found
-found_of (outcomes.Placed placement tree) = Placed placement.sites
-found_of (outcomes.Infeasible tree) = Infeasible
-found_of (outcomes.Spent tree) = Spent
-
-abbrev pub outcome_of : Found → Tree → Outcome
-outcome_of (Placed sites) tree = outcomes.Placed (record { sites = sites }) tree
-outcome_of Infeasible tree = outcomes.Infeasible tree
-outcome_of Spent tree = outcomes.Spent tree
-
-pub outcome_parts : (outcome : Outcome) → outcome ≡ outcome_of (found_of outcome) (tree_of outcome)
-outcome_parts (outcomes.Placed placement tree) = refl
-outcome_parts (outcomes.Infeasible tree) = refl
-outcome_parts (outcomes.Spent tree) = refl
-
-pub outcome_spelled : (outcome : Outcome)
-    → outcome_bytes outcome ≡ found_bytes (found_of outcome) ++ bytes_of (tree_of outcome)
-outcome_spelled (outcomes.Placed placement tree) = refl
-outcome_spelled (outcomes.Infeasible tree) = refl
-outcome_spelled (outcomes.Spent tree) = refl
-
-found_written : (outcome : Outcome) → HasWritten outcome → IsFound (found_of outcome)
-found_written (outcomes.Placed placement tree) written = written
-found_written (outcomes.Infeasible tree) written = tt
-found_written (outcomes.Spent tree) written = tt
-
-of_written : (found : Found) (tree : Tree) → IsFound found → HasWritten (outcome_of found tree)
-of_written (Placed sites) tree written = written
-of_written Infeasible tree written = tt
-of_written Spent tree written = tt
-
-of_tree : (found : Found) (tree : Tree) → tree_of (outcome_of found tree) ≡ tree
-of_tree (Placed sites) tree = refl
-of_tree Infeasible tree = refl
-of_tree Spent tree = refl
-
-of_spelled : (found : Found) (tree : Tree) → outcome_bytes (outcome_of found tree) ≡ found_bytes found ++ bytes_of tree
-of_spelled (Placed sites) tree = refl
-of_spelled Infeasible tree = refl
-of_spelled Spent tree = refl
 
 module _ (number : ℕ) where
   -- what is read where the tree is read as this
@@ -246,43 +203,17 @@ module _ (number : ℕ) where
       elim (cases_lt read.1 (length rest)) [
         | inl less ↦ (
           Err faults.Extra,
-          subst (λ (l : List ℕ). HasRest number l GoesOn) (sym parts)
-              (front_rest number front rest found GoesOn is (read.0, read.1, reads, less)),
+          rest_extra number bytes front rest found parts is read.0 read.1 reads less,
         )
-        | inr whole ↦
-            let none : drop read.1 rest ≡ [] = drop_all read.1 rest whole in
-            let tail : rest ≡ bytes_of read.0 =
-            reads.parts ∙ ap (λ (l : List ℕ). bytes_of read.0 ++ l) none ∙ append-nil (bytes_of read.0) in (
-              Ok (Solve (record { number = number; outcome = outcome_of found read.0 })),
-              (
-                refl,
-                record {
-                  within = record {
-                    number = is.fits;
-                    formed = subst (λ tree. IsTrue (is_formed tree)) (sym (of_tree found read.0)) reads.may;
-                    written = of_written found read.0 is.written;
-                  };
-                  version = is.version;
-                  known = is.known;
-                  parts =
-                      parts
-                      ∙ (λ i. is.parts i ++ tail i)
-                      ∙ append_assoc (front_bytes is.version 1 number) (found_bytes found) (bytes_of read.0)
-                      ∙ ap (λ (l : List ℕ). front_bytes is.version 1 number ++ l) (sym (of_spelled found read.0));
-                },
-              ),
-            )
+        | inr whole ↦ (
+          Ok (Solve (record { number = number; outcome = outcome_of found read.0 })),
+          (refl, rest_whole number bytes front rest found parts is read.0 read.1 reads whole),
+        )
       ]
-  rest_always bytes front rest found (Err trees.Short) parts is reads = (
-    Err faults.Short,
-    inr (subst (λ (l : List ℕ). HasRest number l (IsNoTree trees.Short)) (sym parts)
-        (front_rest number front rest found (IsNoTree trees.Short) is reads)),
-  )
-  rest_always bytes front rest found (Err trees.Shape) parts is reads = (
-    Err faults.Shape,
-    inr (subst (λ (l : List ℕ). HasRest number l (IsNoTree trees.Shape)) (sym parts)
-        (front_rest number front rest found (IsNoTree trees.Shape) is reads)),
-  )
+  rest_always bytes front rest found (Err trees.Short) parts is reads =
+      (Err faults.Short, rest_short number bytes front rest found parts is reads)
+  rest_always bytes front rest found (Err trees.Shape) parts is reads =
+      (Err faults.Shape, rest_shape number bytes front rest found parts is reads)
   rest_always bytes front rest found (Err trees.Memory) parts is reads = absurd reads
 
   tree_or_not : (place : Place) → ((found : Found) × (place ≡ TreePlace found)) ⊎ (is_tree place ≡ false)
