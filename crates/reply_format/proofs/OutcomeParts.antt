@@ -47,7 +47,8 @@ of_tree (Placed sites) tree = refl
 of_tree Infeasible tree = refl
 of_tree Spent tree = refl
 
-pub of_spelled : (found : Found) (tree : Tree) → outcome_bytes (outcome_of found tree) ≡ found_bytes found ++ bytes_of tree
+pub of_spelled : (found : Found) (tree : Tree)
+    → outcome_bytes (outcome_of found tree) ≡ found_bytes found ++ bytes_of tree
 of_spelled (Placed sites) tree = refl
 of_spelled Infeasible tree = refl
 of_spelled Spent tree = refl

@@ -95,7 +95,8 @@ rows_push f from (suc rows) =
 
 -- the rows up to the next
 pub sparse-next : (rows width : ℕ) (counters : List ℤ)
-    → sparse_bytes (rows + 1) width counters ≡ sparse_bytes rows width counters ++ row_bytes (row_at width counters rows)
+    → sparse_bytes (rows + 1) width counters
+    ≡ sparse_bytes rows width counters ++ row_bytes (row_at width counters rows)
 unfolding sparse_bytes
 sparse-next rows width counters =
     let at : 0 + rows ≡ rows = omega arith in

@@ -17,7 +17,8 @@ use Rattle.reply_format.proofs.SolveBack.{IsFront, front_rest}
 module _ (number : ℕ) (bytes front rest : List ℕ) (found : Found) (parts : bytes ≡ front ++ rest)
     (is : IsFront number front found) where
   has_rest : (P : List ℕ → Type 0) → P rest → HasRest number bytes P
-  has_rest P says = subst (λ (l : List ℕ). HasRest number l P) (sym parts) (front_rest number front rest found P is says)
+  has_rest P says =
+      subst (λ (l : List ℕ). HasRest number l P) (sym parts) (front_rest number front rest found P is says)
 
   -- no tree
   pub rest_short : ReadsBytes rest (Err trees.Short) → BreaksSolve number bytes faults.Short
