@@ -1,0 +1,6 @@
+mod Heads
+mod Moves
+mod Reading
+mod Rooms
+mod Says
+mod Taken

@@ -1,0 +1,52 @@
+use Rattle.std.proofs.Common.{◌≡◌, ◌+◌, ◌≤◌, ℕ, List, Bool, false, ◌++◌, length, map, sym, ◌∙◌, ap, subst, arith, length-append}
+use Rattle.std.proofs.lemmas.List.{length-map}
+use Rattle.std.specs.Option.{option_to_list}
+use Rattle.bound_certificate.specs.declared.need.Need.{Need}
+use Rattle.bound_certificate.specs.declared.site.Site.{Site}
+use Rattle.job_format.specs.Given.{item_gives, need_gives, site_gives}
+use Rattle.job_format.specs.Held.{need_of}
+use Rattle.job_format.specs.declared.held_need.HeldNeed.{HeldNeed}
+use Rattle.job_format.specs.declared.item.Item.{Item}
+use Rattle.child_jobs.specs.Rooms.{HasRoom, ends_frame}
+use Rattle.child_jobs.proofs.Rooms.{items_few, needs_few, room_as, room_with, sites_few}
+use Rattle.child_jobs.proofs.reader.JobReader.go_on.Goals as goal
+
+pub keep-requires : goal.keep-requires
+keep-requires c =
+    let r = c.args.self.now in
+    let room : HasRoom c.args.place (ends_frame r.place c.args.place) (length r.frame.items + length (option_to_list c.args.item)) (length r.sites.items + length (option_to_list c.args.site)) (length r.needs.items + length (option_to_list c.args.need)) =
+    room_with r.place c.args.place c.requires.field.0 c.args.item c.args.site c.args.need r.ended c.requires.within c.requires.field.1 r.room in
+    omega (arith, room.few_items, items_few c.args.place (ends_frame r.place c.args.place), r.frame_room)
+
+pub keep-requires-2 : goal.keep-requires-2
+keep-requires-2 c =
+    let r = c.args.self.now in
+    let room : HasRoom c.args.place (ends_frame r.place c.args.place) (length r.frame.items + length (option_to_list c.args.item)) (length r.sites.items + length (option_to_list c.args.site)) (length r.needs.items + length (option_to_list c.args.need)) =
+    room_with r.place c.args.place c.requires.field.0 c.args.item c.args.site c.args.need r.ended c.requires.within c.requires.field.1 r.room in
+    omega (arith, room.few_sites, sites_few c.args.place, r.site_room)
+
+pub keep-requires-3 : goal.keep-requires-3
+keep-requires-3 c =
+    let r = c.args.self.now in
+    let room : HasRoom c.args.place (ends_frame r.place c.args.place) (length r.frame.items + length (option_to_list c.args.item)) (length r.sites.items + length (option_to_list c.args.site)) (length r.needs.items + length (option_to_list c.args.need)) =
+    room_with r.place c.args.place c.requires.field.0 c.args.item c.args.site c.args.need r.ended c.requires.within c.requires.field.1 r.room in
+    omega (arith, room.few_needs, needs_few c.args.place, r.need_room)
+
+pub invariant_of-self : goal.invariant_of-self
+invariant_of-self c =
+    let r = c.args.self.now in
+    let room : HasRoom c.args.place (ends_frame r.place c.args.place) (length r.frame.items + length (option_to_list c.args.item)) (length r.sites.items + length (option_to_list c.args.site)) (length r.needs.items + length (option_to_list c.args.need)) =
+    room_with r.place c.args.place c.requires.field.0 c.args.item c.args.site c.args.need r.ended c.requires.within c.requires.field.1 r.room in
+    record {
+      room =
+          room_as c.ends_frame-self.ensures
+          (ap length c.keep.ensures.items ∙ length-append r.frame.items (option_to_list c.args.item))
+          (ap length c.keep-2.ensures.items ∙ length-append r.sites.items (option_to_list c.args.site))
+          (ap length c.keep-3.ensures.items ∙ length-append r.needs.items (option_to_list c.args.need)) room;
+      via = c.requires.via;
+      frame_room = omega (arith, c.keep.ensures.room, r.frame_room);
+      site_room = omega (arith, c.keep-2.ensures.room, r.site_room);
+      need_room = omega (arith, c.keep-3.ensures.room, r.need_room);
+      short = omega (arith, c.place_size.ensures.some, c.place_size.ensures.size);
+      held_room = omega (arith, c.place_size.ensures.few, c.place_size.ensures.size);
+    }
