@@ -1,6 +1,9 @@
+mod Begins
+mod Ended
 mod Heads
 mod Moves
 mod Reading
+mod Reads
 mod Rooms
 mod Says
 mod Taken

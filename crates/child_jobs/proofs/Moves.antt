@@ -143,7 +143,7 @@ broken_rest now middle piece taken fault is broken =
     ∙ ap (λ (r : Reached Place JobFault). reached job_format r (drop taken piece)) (sym is)
     ∙ broken
 
-take-add : (n m : ℕ) (xs : List ℕ) → take (n + m) xs ≡ take n xs ++ take m (drop n xs)
+pub take-add : (n m : ℕ) (xs : List ℕ) → take (n + m) xs ≡ take n xs ++ take m (drop n xs)
 take-add n m xs =
     sym (take-append-drop n (take (n + m) xs))
     ∙ ap (λ (l : List ℕ). l ++ drop n (take (n + m) xs)) (take-take n (n + m) xs (omega arith))

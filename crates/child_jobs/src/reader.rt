@@ -18,7 +18,8 @@ ghost use Rattle.child_jobs.specs.Rooms.{Completes, HasRoom, ends_frame};
 use crate::{JobEnd, JobHead};
 use bound_certificate::Site;
 use job_format::{
-    HeadNumbers, HeadStep, HeldNeed, Item, JobFault, Kind, Place, item_at, judge, need_at, place_size, site_at,
+    HeadNumbers, HeadStep, HeldNeed, Item, JobFault, Kind, Place, item_at, judge, need_at,
+    place_size, site_at,
 };
 use mon_io::Memory;
 use std::alloc::Global;
@@ -161,7 +162,13 @@ impl JobReader {
     }
 
     // Goes on at a place, with what the field before it completed.
-    fn go_on(&mut self, place: Place, item: Option<Item>, site: Option<Site>, need: Option<HeldNeed>)
+    fn go_on(
+        &mut self,
+        place: Place,
+        item: Option<Item>,
+        site: Option<Site>,
+        need: Option<HeldNeed>,
+    )
         requires field { (field : List ℕ) × Completes self.old.place place field item site need }
         requires via { has_room place ≡ true }
         requires within { self.old.ended ≡ false }
@@ -187,6 +194,33 @@ impl JobReader {
         ensures few { length result.now ≤ frame_limit }
     {
         if self.ended { &self.frame } else { &[] }
+    }
+
+    /// The head, Some exactly once it is there whole. It takes no memory.
+    pub fn head(&self) -> Option<JobHead>
+        ensures value { option_map head_of result ≡ known_head self.now }
+        ensures begins { (bytes : List ℕ) (given : List AnItem) → HasTaken self.now bytes given → BeginsWith bytes (known_head self.now) }
+    {
+        JobHead::at(&self.place)
+    }
+
+    /// What the job was, at the end of its bytes; else the first breach, `Short` where they end inside the job, or
+    /// `Memory`. It takes memory.
+    pub fn finish(self, alloc: Global) -> Result<JobEnd, JobFault>
+        ensures end { (bytes : List ℕ) (given : List AnItem) → HasTaken self bytes given
+            → (result ≡ Err faults.Memory) ⊎ Ends bytes (known_head self) given result }
+        ensures again { (fault : Fault) → stopped self ≡ Some fault → result ≡ Err fault }
+    {
+        if let Some(fault) = self.stop {
+            return Err(fault);
+        }
+        match &self.place {
+            Place::ReplayEnd { .. } => Ok(JobEnd::Replay),
+            Place::SolveEnd { numbers } => {
+                JobEnd::of_solve(alloc, numbers.nodes, self.sites, self.needs)
+            }
+            _ => Err(JobFault::Short),
+        }
     }
 }
 
