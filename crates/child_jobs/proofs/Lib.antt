@@ -1,9 +1,9 @@
 mod Begins
+mod Collected
 mod Ended
 mod Heads
 mod Moves
 mod Reading
-mod Reads
 mod Rooms
 mod Says
 mod Taken

@@ -27,6 +27,7 @@ use Rattle.job_format.specs.declared.place.SolveNumbers.{SolveNumbers}
 use Rattle.job_format.specs.declared.place.SolveStep.{SolveStep}
 use Rattle.job_format.specs.declared.place.SolveStep.TheVariants as solves
 use Rattle.job_format.specs.declared.place.Tally.{Tally}
+use Rattle.child_jobs.specs.declared.reader.JobReader.{JobReader}
 use Rattle.child_jobs.specs.Rooms.{Completes, HasRoom, ends_frame, head_sound, is_count, is_left, is_sketch, is_sound, most_items, most_needs, most_sites, step_needs, step_sites, step_sound}
 
 -- what holds of where a right field leads
@@ -335,14 +336,23 @@ needs_few (ReplayEnd h tally) = omega arith
 needs_few (Solve step n) = step_needs_few step n
 needs_few (SolveEnd n) = omega arith
 
--- with what is kept
-pub room_with : {i s n : ℕ} (p q : Place) (b : List ℕ) (item : Option Item) (site : Option Site) (need : Option HeldNeed) (ended : Bool) → ended ≡ false → Completes p q b item site need
-    → HasRoom p ended i s n
-    → HasRoom q (ends_frame p q) (i + length (option_to_list item)) (s + length (option_to_list site)) (n + length (option_to_list need))
-room_with {i} {s} {n} p q b item site need ended is completes room =
-    let before : HasRoom p false i s n = subst (λ (e : Bool). HasRoom p e i s n) is room in
-    let items : length (option_to_list item) ≡ length (item_gives p b) = ap length completes.as_item in
-    let sites : length (option_to_list site) ≡ length (site_gives p b) = ap length completes.as_site in
-    let needs : length (option_to_list need) ≡ length (need_gives p b) = sym (length-map (option_to_list need) need_of) ∙ ap length completes.as_need in
+-- the room of a reader that goes on at a place, with what the field before it completed
+abbrev pub RoomBehind : JobReader → Place → Option Item → Option Site → Option HeldNeed → Type 0
+RoomBehind r place item site need =
+    HasRoom place (ends_frame r.place place) (length r.frame.items + length (option_to_list item))
+    (length r.sites.items + length (option_to_list site)) (length r.needs.items + length (option_to_list need))
+
+pub room_with : (r : JobReader) (place : Place) (item : Option Item) (site : Option Site) (need : Option HeldNeed)
+    → r.ended ≡ false → (field : List ℕ) × Completes r.place place field item site need
+    → RoomBehind r place item site need
+room_with r place item site need open_yet (field, completes) =
+    let i : ℕ = length r.frame.items in
+    let s : ℕ = length r.sites.items in
+    let n : ℕ = length r.needs.items in
+    let before : HasRoom r.place false i s n = room_as (sym open_yet) refl refl refl r.room in
+    let items : length (option_to_list item) ≡ length (item_gives r.place field) = ap length completes.as_item in
+    let sites : length (option_to_list site) ≡ length (site_gives r.place field) = ap length completes.as_site in
+    let needs : length (option_to_list need) ≡ length (need_gives r.place field) =
+    sym (length-map (option_to_list need) need_of) ∙ ap length completes.as_need in
     room_as refl (ap (λ (k : ℕ). i + k) items) (ap (λ (k : ℕ). s + k) sites) (ap (λ (k : ℕ). n + k) needs)
-    (room_behind i s n p q b before completes.judged)
+    (room_behind i s n r.place place field before completes.judged)

@@ -1,4 +1,4 @@
-use Rattle.child_jobs.proofs.Reads.{no_other, no_other_breach}
+use Rattle.child_jobs.proofs.Collected.{no_other, no_other_breach}
 use Rattle.child_jobs.proofs.read.read_job.Goals as goal
 
 pub returns-in-Ok-take_all-clause-alone : goal.returns-in-Ok-take_all-clause-alone

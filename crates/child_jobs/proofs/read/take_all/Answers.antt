@@ -1,5 +1,5 @@
 use Rattle.std.proofs.Common.{[], ◌++◌, length, take, ap, arith, length-drop, inr, rules}
-use Rattle.child_jobs.proofs.Reads.{breach_here, taken_on}
+use Rattle.child_jobs.proofs.Collected.{breach_here, taken_on}
 use Rattle.child_jobs.proofs.read.take_all.Goals as goal
 
 pub returns-in-Err-clause-breach : goal.returns-in-Err-clause-breach

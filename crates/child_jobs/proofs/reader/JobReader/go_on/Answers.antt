@@ -8,35 +8,35 @@ use Rattle.job_format.specs.Held.{need_of}
 use Rattle.job_format.specs.declared.held_need.HeldNeed.{HeldNeed}
 use Rattle.job_format.specs.declared.item.Item.{Item}
 use Rattle.child_jobs.specs.Rooms.{HasRoom, ends_frame}
-use Rattle.child_jobs.proofs.Rooms.{items_few, needs_few, room_as, room_with, sites_few}
+use Rattle.child_jobs.proofs.Rooms.{RoomBehind, items_few, needs_few, room_as, room_with, sites_few}
 use Rattle.child_jobs.proofs.reader.JobReader.go_on.Goals as goal
 
 pub keep-requires : goal.keep-requires
 keep-requires c =
     let r = c.args.self.now in
-    let room : HasRoom c.args.place (ends_frame r.place c.args.place) (length r.frame.items + length (option_to_list c.args.item)) (length r.sites.items + length (option_to_list c.args.site)) (length r.needs.items + length (option_to_list c.args.need)) =
-    room_with r.place c.args.place c.requires.field.0 c.args.item c.args.site c.args.need r.ended c.requires.within c.requires.field.1 r.room in
+    let room : RoomBehind r c.args.place c.args.item c.args.site c.args.need =
+    room_with r c.args.place c.args.item c.args.site c.args.need c.requires.within c.requires.field in
     omega (arith, room.few_items, items_few c.args.place (ends_frame r.place c.args.place), r.frame_room)
 
 pub keep-requires-2 : goal.keep-requires-2
 keep-requires-2 c =
     let r = c.args.self.now in
-    let room : HasRoom c.args.place (ends_frame r.place c.args.place) (length r.frame.items + length (option_to_list c.args.item)) (length r.sites.items + length (option_to_list c.args.site)) (length r.needs.items + length (option_to_list c.args.need)) =
-    room_with r.place c.args.place c.requires.field.0 c.args.item c.args.site c.args.need r.ended c.requires.within c.requires.field.1 r.room in
+    let room : RoomBehind r c.args.place c.args.item c.args.site c.args.need =
+    room_with r c.args.place c.args.item c.args.site c.args.need c.requires.within c.requires.field in
     omega (arith, room.few_sites, sites_few c.args.place, r.site_room)
 
 pub keep-requires-3 : goal.keep-requires-3
 keep-requires-3 c =
     let r = c.args.self.now in
-    let room : HasRoom c.args.place (ends_frame r.place c.args.place) (length r.frame.items + length (option_to_list c.args.item)) (length r.sites.items + length (option_to_list c.args.site)) (length r.needs.items + length (option_to_list c.args.need)) =
-    room_with r.place c.args.place c.requires.field.0 c.args.item c.args.site c.args.need r.ended c.requires.within c.requires.field.1 r.room in
+    let room : RoomBehind r c.args.place c.args.item c.args.site c.args.need =
+    room_with r c.args.place c.args.item c.args.site c.args.need c.requires.within c.requires.field in
     omega (arith, room.few_needs, needs_few c.args.place, r.need_room)
 
 pub invariant_of-self : goal.invariant_of-self
 invariant_of-self c =
     let r = c.args.self.now in
-    let room : HasRoom c.args.place (ends_frame r.place c.args.place) (length r.frame.items + length (option_to_list c.args.item)) (length r.sites.items + length (option_to_list c.args.site)) (length r.needs.items + length (option_to_list c.args.need)) =
-    room_with r.place c.args.place c.requires.field.0 c.args.item c.args.site c.args.need r.ended c.requires.within c.requires.field.1 r.room in
+    let room : RoomBehind r c.args.place c.args.item c.args.site c.args.need =
+    room_with r c.args.place c.args.item c.args.site c.args.need c.requires.within c.requires.field in
     record {
       room =
           room_as c.ends_frame-self.ensures
