@@ -27,30 +27,36 @@ module _ (head : Head) where
   count_knows true test h tally old count here = here
   count_knows false test h tally old count here = right_if Knows test faults.Shape (Key h tally count) (λ yes. here)
 
-  weight_knows : (is_last : Bool) (h : HeadNumbers) (old tally : Tally) (left : ℕ) → Knows (Count h old) → Knows (if is_last then Count h tally else Key h tally (left - 1))
+  weight_knows : (is_last : Bool) (h : HeadNumbers) (old tally : Tally) (left : ℕ) → Knows (Count h old)
+      → Knows (if is_last then Count h tally else Key h tally (left - 1))
   unfolding Knows
   weight_knows true h old tally left here = here
   weight_knows false h old tally left here = here
 
   site_knows : (is_last : Bool) (n : SolveNumbers) (step : SolveStep) → Knows (Solve step n)
-      → Knows (if is_last then Solve solves.Needs (record n { sites_left = 0 }) else Solve solves.Site (record n { sites_left = n.sites_left - 1 }))
+      → Knows (if is_last then Solve solves.Needs (record n { sites_left = 0 }) else Solve solves.Site
+      (record n { sites_left = n.sites_left - 1 }))
   unfolding Knows
   site_knows true n step here = here
   site_knows false n step here = here
 
   need_knows : (is_last : Bool) (n : SolveNumbers) (step : SolveStep) → Knows (Solve step n)
-      → Knows (if is_last then SolveEnd (record n { needs_left = 0 }) else Solve solves.Load (record n { needs_left = n.needs_left - 1 }))
+      → Knows (if is_last then SolveEnd (record n { needs_left = 0 }) else Solve solves.Load
+      (record n { needs_left = n.needs_left - 1 }))
   unfolding Knows
   need_knows true n step here = here
   need_knows false n step here = here
 
   hop_knows : (is_last : Bool) (n : SolveNumbers) (site : ℕ) → Knows (Solve solves.Hop n)
-      → Knows (if is_last then behind_need (record n { load = 0; via = []; hops_left = 0 }) else Solve solves.Hop (record n { via = n.via ++ site ∷ []; hops_left = n.hops_left - 1 }))
+      → Knows (if is_last then behind_need (record n { load = 0; via = []; hops_left = 0 }) else Solve solves.Hop
+      (record n { via = n.via ++ site ∷ []; hops_left = n.hops_left - 1 }))
   unfolding Knows
-  hop_knows true n site here = need_knows (nat_le n.needs_left 1) (record n { load = 0; via = []; hops_left = 0 }) solves.Hop here
+  hop_knows true n site here =
+      need_knows (nat_le n.needs_left 1) (record n { load = 0; via = []; hops_left = 0 }) solves.Hop here
   hop_knows false n site here = here
 
-  step_knows : (step : SolveStep) (n : SolveNumbers) (b : List ℕ) → Knows (Solve step n) → IfOk (judge_solve step n b) Knows
+  step_knows : (step : SolveStep) (n : SolveNumbers) (b : List ℕ) → Knows (Solve step n)
+      → IfOk (judge_solve step n b) Knows
   unfolding Knows
   step_knows solves.Nodes n b here = right_if Knows _ _ _ (λ yes. here)
   step_knows solves.Sites n b here = right_if Knows _ _ _ (λ yes. here)
@@ -58,22 +64,28 @@ module _ (head : Head) where
   step_knows solves.Needs n b here = right_if Knows _ _ _ (λ yes. here)
   step_knows solves.Load n b here = right_if Knows _ _ _ (λ yes. here)
   step_knows solves.Hops n b here = right_if Knows _ _ _ (λ yes. here)
-  step_knows solves.Hop n b here = right_if Knows _ _ _ (λ yes. hop_knows (nat_le n.hops_left 1) n (slice_index b 0) here)
+  step_knows solves.Hop n b here =
+      right_if Knows _ _ _ (λ yes. hop_knows (nat_le n.hops_left 1) n (slice_index b 0) here)
 
   knows_on : (p : Place) (b : List ℕ) → Knows p → IfOk (judge_place p b) Knows
   unfolding Knows judge_place
   knows_on (AtHead step h) b here = absurd (cc)
   knows_on (Count h tally) b here =
-      count_knows (little_number 2 b == 0) (may_follow tally (little_number 2 b)) h (with_frame tally (little_number 2 b)) tally (little_number 2 b) here
-  knows_on (Key h tally left) b here = right_if Knows (is_valid (key_words b)) faults.Shape (Weight h tally left (key_words b)) (λ yes. here)
+      count_knows (little_number 2 b == 0) (may_follow tally (little_number 2 b)) h
+      (with_frame tally (little_number 2 b)) tally (little_number 2 b) here
+  knows_on (Key h tally left) b here =
+      right_if Knows (is_valid (key_words b)) faults.Shape (Weight h tally left (key_words b)) (λ yes. here)
   knows_on (Weight h tally left key) b here =
-      right_if Knows (nat_le (tally.weight + little_number 4 b) weight_limit) faults.Shape (behind_item h (with_weight tally (little_number 4 b)) left)
+      right_if Knows (nat_le (tally.weight + little_number 4 b) weight_limit) faults.Shape
+      (behind_item h (with_weight tally (little_number 4 b)) left)
       (λ yes. weight_knows (nat_le left 1) h tally (with_weight tally (little_number 4 b)) left here)
   knows_on (ReplayEnd h tally) b here = tt
   knows_on (Solve step n) b here = step_knows step n b here
   knows_on (SolveEnd n) b here = tt
 
 -- so it is where a field led
-pub head_stays : (p q : Place) (b : List ℕ) → judge_place p b ≡ Ok q → (head : Head) → head_at p ≡ Some head → head_at q ≡ Some head
+pub head_stays : (p q : Place) (b : List ℕ) → judge_place p b ≡ Ok q → (head : Head) → head_at p ≡ Some head
+    → head_at q ≡ Some head
 unfolding Knows
-head_stays p q b is head here = subst (λ (r : Result Place JobFault). IfOk r (λ t. head_at t ≡ Some head)) is (knows_on head p b here)
+head_stays p q b is head here =
+    subst (λ (r : Result Place JobFault). IfOk r (λ t. head_at t ≡ Some head)) is (knows_on head p b here)

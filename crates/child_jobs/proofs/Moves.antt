@@ -26,9 +26,11 @@ pub record IsPut (held new piece : List ℕ) (filled count : ℕ) : Type 0 where
   pub fits : count ≤ length piece
   pub bytes : take (filled + length (take count piece)) new ≡ take filled held ++ take count piece
 
-put_bytes : {held new piece : List ℕ} {filled count : ℕ} → IsPut held new piece filled count → take (filled + count) new ≡ take filled held ++ take count piece
+put_bytes : {held new piece : List ℕ} {filled count : ℕ} → IsPut held new piece filled count
+    → take (filled + count) new ≡ take filled held ++ take count piece
 put_bytes {held} {new} {piece} {filled} {count} put =
-    subst (λ (n : ℕ). take (filled + n) new ≡ take filled held ++ take count piece) (length-take-le count piece put.fits) put.bytes
+    subst (λ (n : ℕ). take (filled + n) new ≡ take filled held ++ take count piece)
+    (length-take-le count piece put.fits) put.bytes
 
 -- a reader that goes on is at its place
 pub at_state : (r : JobReader) → stopped r ≡ None → state r ≡ At r.place (take r.filled r.held)
@@ -46,18 +48,23 @@ pub record Stays (old new : JobReader) : Type 0 where
   pub needs : new.needs.items ≡ old.needs.items
 
 -- bytes that don't fill a field
-module _ (old new : JobReader) {piece : List ℕ} {count : ℕ} (going : stopped old ≡ None) (put : IsPut old.held new.held piece old.filled count) where
-  short_part : old.filled + count < place_size old.place → length (take old.filled old.held) + length (take count piece) < place_size old.place
-  short_part less = omega (arith, less, length-take-le count piece put.fits, length-take-le old.filled old.held put.within)
+module _ (old new : JobReader) {piece : List ℕ} {count : ℕ} (going : stopped old ≡ None)
+    (put : IsPut old.held new.held piece old.filled count) where
+  short_part : old.filled + count < place_size old.place
+      → length (take old.filled old.held) + length (take count piece) < place_size old.place
+  short_part less = omega
+      (arith, less, length-take-le count piece put.fits, length-take-le old.filled old.held put.within)
 
-  none_more : {X : Type 0} (gives : Place → List ℕ → List X) (xs : List X) → old.filled + count < place_size old.place → xs ≡ xs ++ yields job_format gives (state old) (take count piece)
+  none_more : {X : Type 0} (gives : Place → List ℕ → List X) (xs : List X) → old.filled + count < place_size old.place
+      → xs ≡ xs ++ yields job_format gives (state old) (take count piece)
   none_more {X} gives xs less =
       sym (append-nil xs)
       ∙ ap (λ (l : List X). xs ++ l)
       (sym (yields-part job_format gives old.place (take old.filled old.held) (take count piece) (short_part less))
       ∙ ap (λ (r : Reached Place JobFault). yields job_format gives r (take count piece)) (sym (at_state old going)))
 
-  pub part_moves : old.ended ≡ false → Stays old new → new.filled ≡ old.filled + count → old.filled + count < place_size old.place → Moves old new (take count piece)
+  pub part_moves : old.ended ≡ false → Stays old new → new.filled ≡ old.filled + count
+      → old.filled + count < place_size old.place → Moves old new (take count piece)
   part_moves open_yet same filled less = record {
     going = same.stop ∙ going;
     leads =
@@ -74,27 +81,32 @@ module _ (old new : JobReader) {piece : List ℕ} {count : ℕ} (going : stopped
   }
 
 -- bytes that fill it
-module _ (old : JobReader) {now piece : List ℕ} {count : ℕ} (going : stopped old ≡ None) (put : IsPut old.held now piece old.filled count) (some : 0 < count) (full : old.filled + count ≡ place_size old.place) where
+module _ (old : JobReader) {now piece : List ℕ} {count : ℕ} (going : stopped old ≡ None)
+    (put : IsPut old.held now piece old.filled count) (some : 0 < count)
+    (full : old.filled + count ≡ place_size old.place) where
   some_part : 0 < length (take count piece)
   some_part = omega (arith, some, length-take-le count piece put.fits)
 
   full_part : length (take old.filled old.held) + length (take count piece) ≡ place_size old.place
   full_part = omega (arith, full, length-take-le count piece put.fits, length-take-le old.filled old.held put.within)
 
-  pub field_leads : reached job_format (state old) (take count piece) ≡ judged (judge_place old.place (take (old.filled + count) now))
+  pub field_leads : reached job_format (state old) (take count piece) ≡ judged
+      (judge_place old.place (take (old.filled + count) now))
   field_leads =
       ap (λ (r : Reached Place JobFault). reached job_format r (take count piece)) (at_state old going)
       ∙ reached-field job_format old.place (take old.filled old.held) (take count piece) some_part full_part
       ∙ ap (λ (l : List ℕ). judged (judge_place old.place l)) (sym (put_bytes put))
 
-  pub field_gives : {X : Type 0} (gives : Place → List ℕ → List X) → yields job_format gives (state old) (take count piece) ≡ gives old.place (take (old.filled + count) now)
+  pub field_gives : {X : Type 0} (gives : Place → List ℕ → List X)
+      → yields job_format gives (state old) (take count piece) ≡ gives old.place (take (old.filled + count) now)
   field_gives {X} gives =
       ap (λ (r : Reached Place JobFault). yields job_format gives r (take count piece)) (at_state old going)
       ∙ yields-field job_format gives old.place (take old.filled old.held) (take count piece) some_part full_part
       ∙ ap (λ (l : List ℕ). gives old.place l) (sym (put_bytes put))
 
 -- a reader behind a field
-pub record Goes (old new : JobReader) (place : Place) (item : Option Item) (site : Option Site) (need : Option HeldNeed) : Type 0 where
+pub record Goes (old new : JobReader) (place : Place) (item : Option Item) (site : Option Site)
+    (need : Option HeldNeed) : Type 0 where
   pub at : new.place ≡ place
   pub filled : new.filled ≡ 0
   pub stop : new.stop ≡ old.stop
@@ -102,13 +114,16 @@ pub record Goes (old new : JobReader) (place : Place) (item : Option Item) (site
   pub sites : new.sites.items ≡ old.sites.items ++ option_to_list site
   pub needs : new.needs.items ≡ old.needs.items ++ option_to_list need
 
-pub state_start : (r : JobReader) (place : Place) → stopped r ≡ None → r.place ≡ place → r.filled ≡ 0 → state r ≡ At place []
+pub state_start : (r : JobReader) (place : Place) → stopped r ≡ None → r.place ≡ place → r.filled ≡ 0
+    → state r ≡ At place []
 state_start r place going is none =
     at_state r going ∙ ap (λ (n : ℕ). At r.place (take n r.held)) none ∙ ap (λ (p : Place). At p []) is
 
-pub field_moves : (old new : JobReader) {now piece : List ℕ} {count : ℕ} (place : Place) (item : Option Item) (site : Option Site) (need : Option HeldNeed) → stopped old ≡ None → old.ended ≡ false
+pub field_moves : (old new : JobReader) {now piece : List ℕ} {count : ℕ} (place : Place) (item : Option Item)
+    (site : Option Site) (need : Option HeldNeed) → stopped old ≡ None → old.ended ≡ false
     → IsPut old.held now piece old.filled count → 0 < count → old.filled + count ≡ place_size old.place
-    → Completes old.place place (take (old.filled + count) now) item site need → Goes old new place item site need → Moves old new (take count piece)
+    → Completes old.place place (take (old.filled + count) now) item site need → Goes old new place item site need
+    → Moves old new (take count piece)
 field_moves old new {now} {piece} {count} place item site need going open_yet put some full completes goes = record {
   going = goes.stop ∙ going;
   leads =
@@ -118,17 +133,22 @@ field_moves old new {now} {piece} {count} place item site need going open_yet pu
   items =
       goes.items
       ∙ ap (λ (l : List Item). l ++ option_to_list item) (sym (kept_all old open_yet))
-      ∙ ap (λ (l : List Item). kept old ++ l) (completes.as_item ∙ sym (field_gives old going put some full item_gives));
-  sites = goes.sites ∙ ap (λ (l : List Site). old.sites.items ++ l) (completes.as_site ∙ sym (field_gives old going put some full site_gives));
+      ∙ ap (λ (l : List Item). kept old ++ l)
+      (completes.as_item ∙ sym (field_gives old going put some full item_gives));
+  sites = goes.sites ∙ ap (λ (l : List Site). old.sites.items ++ l)
+      (completes.as_site ∙ sym (field_gives old going put some full site_gives));
   needs =
       ap (λ (l : List HeldNeed). map need_of l) goes.needs
       ∙ map-append need_of old.needs.items (option_to_list need)
-      ∙ ap (λ (l : List Need). needs_held old ++ l) (completes.as_need ∙ sym (field_gives old going put some full need_gives));
-  head = λ head here. ap (λ (p : Place). head_at p) goes.at ∙ head_stays old.place place (take (old.filled + count) now) completes.judged head here;
+      ∙ ap (λ (l : List Need). needs_held old ++ l)
+      (completes.as_need ∙ sym (field_gives old going put some full need_gives));
+  head = λ head here. ap (λ (p : Place). head_at p) goes.at
+      ∙ head_stays old.place place (take (old.filled + count) now) completes.judged head here;
 }
 
 -- a fault within the front is one of the whole
-pub broken_whole : (now : Reached Place JobFault) (piece : List ℕ) (count : ℕ) (fault : JobFault) → reached job_format now (take count piece) ≡ Broken fault → reached job_format now piece ≡ Broken fault
+pub broken_whole : (now : Reached Place JobFault) (piece : List ℕ) (count : ℕ) (fault : JobFault)
+    → reached job_format now (take count piece) ≡ Broken fault → reached job_format now piece ≡ Broken fault
 broken_whole now piece count fault is =
     ap (λ (l : List ℕ). reached job_format now l) (sym (take-append-drop count piece))
     ∙ reached-append job_format now (take count piece) (drop count piece)
@@ -136,7 +156,9 @@ broken_whole now piece count fault is =
     ∙ reached-broken job_format fault (drop count piece)
 
 -- a fault behind the front is one of the whole
-pub broken_rest : (now middle : Reached Place JobFault) (piece : List ℕ) (taken : ℕ) (fault : JobFault) → middle ≡ reached job_format now (take taken piece) → reached job_format middle (drop taken piece) ≡ Broken fault → reached job_format now piece ≡ Broken fault
+pub broken_rest : (now middle : Reached Place JobFault) (piece : List ℕ) (taken : ℕ) (fault : JobFault)
+    → middle ≡ reached job_format now (take taken piece) → reached job_format middle (drop taken piece) ≡ Broken fault
+    → reached job_format now piece ≡ Broken fault
 broken_rest now middle piece taken fault is broken =
     ap (λ (l : List ℕ). reached job_format now l) (sym (take-append-drop taken piece))
     ∙ reached-append job_format now (take taken piece) (drop taken piece)
@@ -153,11 +175,13 @@ reached-nil : (now : Reached Place JobFault) → reached job_format now [] ≡ n
 unfolding reached
 reached-nil now = refl
 
-yields-nil : {X : Type 0} (gives : Place → List ℕ → List X) (now : Reached Place JobFault) → yields job_format gives now [] ≡ []
+yields-nil : {X : Type 0} (gives : Place → List ℕ → List X) (now : Reached Place JobFault)
+    → yields job_format gives now [] ≡ []
 unfolding yields
 yields-nil gives now = refl
 
-none_yet : {X : Type 0} (gives : Place → List ℕ → List X) (now : Reached Place JobFault) (xs : List X) → xs ≡ xs ++ yields job_format gives now []
+none_yet : {X : Type 0} (gives : Place → List ℕ → List X) (now : Reached Place JobFault) (xs : List X)
+    → xs ≡ xs ++ yields job_format gives now []
 none_yet {X} gives now xs = sym (append-nil xs) ∙ ap (λ (l : List X). xs ++ l) (sym (yields-nil gives now))
 
 -- no byte
@@ -172,8 +196,10 @@ stays r going open_yet = record {
 }
 
 -- bytes in two pieces
-pub both_give : {X : Type 0} (gives : Place → List ℕ → List X) (now middle : Reached Place JobFault) (xs ys : List ℕ) (first items after : List X) → middle ≡ reached job_format now xs
-    → items ≡ first ++ yields job_format gives now xs → after ≡ items ++ yields job_format gives middle ys → after ≡ first ++ yields job_format gives now (xs ++ ys)
+pub both_give : {X : Type 0} (gives : Place → List ℕ → List X) (now middle : Reached Place JobFault) (xs ys : List ℕ)
+    (first items after : List X) → middle ≡ reached job_format now xs
+    → items ≡ first ++ yields job_format gives now xs → after ≡ items ++ yields job_format gives middle ys
+    → after ≡ first ++ yields job_format gives now (xs ++ ys)
 both_give {X} gives now middle xs ys first items after is so_far more =
     more
     ∙ ap (λ (r : Reached Place JobFault). items ++ yields job_format gives r ys) is
@@ -191,18 +217,24 @@ moves_both a b c xs ys first open_yet second = record {
   items =
       both_give item_gives (state a) (state b) xs ys (kept a) b.frame.items c.frame.items first.leads first.items
       (second.items ∙ ap (λ (l : List Item). l ++ yields job_format item_gives (state b) ys) (kept_all b open_yet));
-  sites = both_give site_gives (state a) (state b) xs ys a.sites.items b.sites.items c.sites.items first.leads first.sites second.sites;
-  needs = both_give need_gives (state a) (state b) xs ys (needs_held a) (needs_held b) (needs_held c) first.leads first.needs second.needs;
+  sites = both_give site_gives (state a) (state b) xs ys a.sites.items b.sites.items c.sites.items first.leads
+      first.sites second.sites;
+  needs = both_give need_gives (state a) (state b) xs ys (needs_held a) (needs_held b) (needs_held c) first.leads
+      first.needs second.needs;
   head = λ head here. second.head head (first.head head here);
 }
 
-pub moves_on : (a b c : JobReader) (piece rest : List ℕ) (taken count : ℕ) → rest ≡ drop taken piece → Moves a b (take taken piece) → b.ended ≡ false → Moves b c (take count rest) → Moves a c (take (taken + count) piece)
+pub moves_on : (a b c : JobReader) (piece rest : List ℕ) (taken count : ℕ) → rest ≡ drop taken piece
+    → Moves a b (take taken piece) → b.ended ≡ false → Moves b c (take count rest)
+    → Moves a c (take (taken + count) piece)
 moves_on a b c piece rest taken count is first open_yet second =
     subst (λ (l : List ℕ). Moves a c l) (sym (take-add taken count piece))
-    (moves_both a b c (take taken piece) (take count (drop taken piece)) first open_yet (subst (λ (l : List ℕ). Moves b c (take count l)) is second))
+    (moves_both a b c (take taken piece) (take count (drop taken piece)) first open_yet
+    (subst (λ (l : List ℕ). Moves b c (take count l)) is second))
 
 -- a reader that forgot a frame first
-pub begun_moves : (a b c : JobReader) (bytes : List ℕ) → Begins a b → b.ended ≡ false → Moves b c bytes → Moves a c bytes
+pub begun_moves : (a b c : JobReader) (bytes : List ℕ) → Begins a b → b.ended ≡ false → Moves b c bytes
+    → Moves a c bytes
 begun_moves a b c bytes begins open_yet moves = record {
   going = moves.going;
   leads = moves.leads ∙ ap (λ (r : Reached Place JobFault). reached job_format r bytes) begins.leads;

@@ -31,12 +31,16 @@ lent_kept true items = append-nil items
 lent_kept false items = refl
 
 -- what bytes and more bytes give
-more_given : {X : Type 0} (gives : Place → List ℕ → List X) (now : Reached Place JobFault) (bytes more : List ℕ) (before : List X) → now ≡ reached job_format (At job_start []) bytes
-    → yields job_format gives (At job_start []) bytes ≡ before → yields job_format gives (At job_start []) (bytes ++ more) ≡ before ++ yields job_format gives now more
+more_given : {X : Type 0} (gives : Place → List ℕ → List X) (now : Reached Place JobFault) (bytes more : List ℕ)
+    (before : List X) → now ≡ reached job_format (At job_start []) bytes
+    → yields job_format gives (At job_start []) bytes ≡ before
+    → yields job_format gives (At job_start []) (bytes ++ more) ≡ before ++ yields job_format gives now more
 more_given {X} gives now bytes more before is so_far =
-    sym (both_give gives (At job_start []) now bytes more [] before (before ++ yields job_format gives now more) is (sym so_far) refl)
+    sym (both_give gives (At job_start []) now bytes more [] before (before ++ yields job_format gives now more) is
+    (sym so_far) refl)
 
-pub takes_on : (old new : JobReader) (bytes piece : List ℕ) (given : List Item) (n : ℕ) → HasTaken old bytes given → Moves old new (take n piece) → All (λ byte. byte < 256) piece
+pub takes_on : (old new : JobReader) (bytes piece : List ℕ) (given : List Item) (n : ℕ) → HasTaken old bytes given
+    → Moves old new (take n piece) → All (λ byte. byte < 256) piece
     → HasTaken new (bytes ++ take n piece) (given ++ lent new)
 takes_on old new bytes piece given n taken moves fit = record {
   going = moves.going;
@@ -49,13 +53,16 @@ takes_on old new bytes piece given n taken moves fit = record {
       ∙ append_assoc given (kept old) (yields job_format item_gives (state old) (take n piece))
       ∙ ap (λ (l : List Item). given ++ l) (sym moves.items ∙ sym (lent_kept new.ended new.frame.items))
       ∙ sym (append_assoc given (lent new) (kept new));
-  sites = more_given site_gives (state old) bytes (take n piece) old.sites.items taken.leads taken.sites ∙ sym moves.sites;
-  needs = more_given need_gives (state old) bytes (take n piece) (needs_held old) taken.leads taken.needs ∙ sym moves.needs;
+  sites = more_given site_gives (state old) bytes (take n piece) old.sites.items taken.leads taken.sites
+      ∙ sym moves.sites;
+  needs = more_given need_gives (state old) bytes (take n piece) (needs_held old) taken.leads taken.needs
+      ∙ sym moves.needs;
   fit = All-append (λ byte. byte < 256) bytes (take n piece) taken.fit (All-take (λ byte. byte < 256) n piece fit);
 }
 
 -- a breach in a piece is one of all bytes
-pub breach_in : (old : JobReader) (bytes piece rest : List ℕ) (given : List Item) (fault : JobFault) → HasTaken old bytes given → reached job_format (state old) piece ≡ Broken fault
+pub breach_in : (old : JobReader) (bytes piece rest : List ℕ) (given : List Item) (fault : JobFault)
+    → HasTaken old bytes given → reached job_format (state old) piece ≡ Broken fault
     → BreaksJob (bytes ++ (piece ++ rest)) fault
 breach_in old bytes piece rest given fault taken broken =
     breach_of (bytes ++ (piece ++ rest)) fault
@@ -66,7 +73,8 @@ breach_in old bytes piece rest given fault taken broken =
     ∙ reached-broken job_format fault rest)
 
 -- no byte, as a reader begins
-pub starts : (r : JobReader) → stopped r ≡ None → r.place ≡ job_start → r.filled ≡ 0 → r.ended ≡ false → r.frame.items ≡ [] → r.sites.items ≡ [] → r.needs.items ≡ [] → HasTaken r [] []
+pub starts : (r : JobReader) → stopped r ≡ None → r.place ≡ job_start → r.filled ≡ 0 → r.ended ≡ false
+    → r.frame.items ≡ [] → r.sites.items ≡ [] → r.needs.items ≡ [] → HasTaken r [] []
 unfolding reached yields
 starts r going at filled open_yet items sites needs = record {
   going = going;

@@ -136,7 +136,8 @@ pub record HasRoom (place : Place) (ended : Bool) (items sites needs : ℕ) : Ty
   pub whole : (not ended || is_count place) ≡ true
 
 -- this field leads from one place to another, and completes these
-pub record Completes (p q : Place) (field : List ℕ) (item : Option Item) (site : Option Site) (need : Option HeldNeed) : Type 0 where
+pub record Completes (p q : Place) (field : List ℕ) (item : Option Item) (site : Option Site)
+    (need : Option HeldNeed) : Type 0 where
   pub judged : judge_place p field ≡ Ok q
   pub as_item : option_to_list item ≡ item_gives p field
   pub as_site : option_to_list site ≡ site_gives p field

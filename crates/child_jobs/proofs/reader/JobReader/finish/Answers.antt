@@ -8,8 +8,10 @@ returns-in-ReplayEnd-clause-end c bytes given taken =
 
 pub returns-in-SolveEnd-clause-end : goal.returns-in-SolveEnd-clause-end
 returns-in-SolveEnd-clause-end c bytes given taken =
-    ends_made c.args.self bytes given c.in-SolveEnd.numbers c.of_solve.result c.in-SolveEnd.is taken c.of_solve.ensures.value c.of_solve.ensures.fault
+    ends_made c.args.self bytes given c.in-SolveEnd.numbers c.of_solve.result c.in-SolveEnd.is taken
+    c.of_solve.ensures.value c.of_solve.ensures.fault
 
 pub returns-in_default-place-clause-end : goal.returns-in_default-place-clause-end
 returns-in_default-place-clause-end c bytes given taken =
-    inr (ends_short c.args.self bytes given (inside_of c.args.self.place c.in_default-place.not-ReplayEnd c.in_default-place.not-SolveEnd) taken)
+    inr (ends_short c.args.self bytes given
+    (inside_of c.args.self.place c.in_default-place.not-ReplayEnd c.in_default-place.not-SolveEnd) taken)
