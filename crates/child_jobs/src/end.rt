@@ -30,8 +30,10 @@ impl JobEnd {
         sites: Vec<Site>,
         needs: Vec<HeldNeed>,
     ) -> Result<JobEnd, JobFault>
-        ensures value { IfOk result (λ end. end ≡ ends.Solve nodes (record { sites = sites.items; needs = map need_of needs.items })) }
-        ensures fault { IfErr result (λ fault. (fault ≡ faults.Memory) ⊎ (IsWithin sites.items (map need_of needs.items) → ⊥)) }
+        ensures value { IfOk result (λ end. end
+            ≡ ends.Solve nodes (record { sites = sites.items; needs = map need_of needs.items })) }
+        ensures fault { IfErr result (λ fault. (fault ≡ faults.Memory)
+            ⊎ (IsWithin sites.items (map need_of needs.items) → ⊥)) }
     {
         let Ok(needs) = needs_of(alloc, &needs) else {
             return Err(JobFault::Memory);

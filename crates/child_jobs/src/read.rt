@@ -20,7 +20,8 @@ pub fn read_job(alloc: Global, bytes: &[u8]) -> Result<Job, JobFault>
     ensures reads { (result ≡ Err Memory) ⊎ ReadsJob bytes.now (read_as result) }
 
     // No other answer would do.
-    ensures alone { (other : Result AnyJob Fault) → ReadsJob bytes.now other → (result ≡ Err Memory) ⊎ (read_as result ≡ other) }
+    ensures alone { (other : Result AnyJob Fault) → ReadsJob bytes.now other
+        → (result ≡ Err Memory) ⊎ (read_as result ≡ other) }
 {
     let Ok(mut reader) = JobReader::new(alloc) else {
         return Err(JobFault::Memory);
@@ -53,7 +54,8 @@ fn take_all(alloc: Global, reader: &mut JobReader, bytes: &[u8]) -> Result<Vec<I
 
 // What a reader that has taken all bytes says that they are.
 fn whole_job(alloc: Global, reader: JobReader, items: Vec<Item>) -> Result<Job, JobFault>
-    ensures reads { (bytes : List ℕ) → HasTaken reader bytes items.items → (result ≡ Err Memory) ⊎ ReadsJob bytes (read_as result) }
+    ensures reads { (bytes : List ℕ) → HasTaken reader bytes items.items
+        → (result ≡ Err Memory) ⊎ ReadsJob bytes (read_as result) }
 {
     let head = reader.head();
     match reader.finish(alloc) {
@@ -64,7 +66,8 @@ fn whole_job(alloc: Global, reader: JobReader, items: Vec<Item>) -> Result<Job, 
 
 // The job with this head and this end, which are of one kind.
 fn job_of(head: Option<JobHead>, end: JobEnd, items: Vec<Item>) -> Result<Job, JobFault>
-    ensures reads { (bytes : List ℕ) → Ends bytes (option_map head_of head) items.items (Ok end) → ReadsJob bytes (read_as result) }
+    ensures reads { (bytes : List ℕ) → Ends bytes (option_map head_of head) items.items (Ok end)
+        → ReadsJob bytes (read_as result) }
 {
     let Some(head) = head else {
         return Err(JobFault::Short);

@@ -79,9 +79,10 @@ impl JobReader {
         ensures bound { IfOk result (λ n. n ≤ length piece.now) }
         ensures takes { IfOk result (λ n. (bytes : List ℕ) (given : List AnItem) → HasTaken self.old bytes given
             → HasTaken self.new (bytes ++ take n piece.now) (given ++ lent self.new)) }
-        ensures head { IfOk result (λ n. (head : Head) → known_head self.old ≡ Some head → known_head self.new ≡ Some head) }
-        ensures breach { IfErr result (λ fault. (bytes rest : List ℕ) (given : List AnItem) → HasTaken self.old bytes given
-            → BreaksJob (bytes ++ (piece.now ++ rest)) fault) }
+        ensures head { IfOk result (λ n. (head : Head) → known_head self.old ≡ Some head
+            → known_head self.new ≡ Some head) }
+        ensures breach { IfErr result (λ fault. (bytes rest : List ℕ) (given : List AnItem)
+            → HasTaken self.old bytes given → BreaksJob (bytes ++ (piece.now ++ rest)) fault) }
         ensures stops { IfErr result (λ fault. stopped self.new ≡ Some fault) }
         ensures again { (fault : Fault) → stopped self.old ≡ Some fault → result ≡ Err fault }
     {
@@ -199,7 +200,8 @@ impl JobReader {
     /// The head, Some exactly once it is there whole. It takes no memory.
     pub fn head(&self) -> Option<JobHead>
         ensures value { option_map head_of result ≡ known_head self.now }
-        ensures begins { (bytes : List ℕ) (given : List AnItem) → HasTaken self.now bytes given → BeginsWith bytes (known_head self.now) }
+        ensures begins { (bytes : List ℕ) (given : List AnItem) → HasTaken self.now bytes given
+            → BeginsWith bytes (known_head self.now) }
     {
         JobHead::at(&self.place)
     }
