@@ -1,9 +1,10 @@
 -- What holds of every format: one outcome, and the same for every cutting.
-use Rattle.std.proofs.Common.{◌≡◌, ◌<◌, ℕ, ◌+◌, List, [], ◌∷◌, ◌++◌, length, Result, Ok, Err, refl, sym, ◌∙◌, ap, subst, arith, append_assoc, append-nil, length-append, inl, inr}
+use Rattle.std.proofs.Common.{◌≡◌, ◌<◌, ℕ, ◌+◌, List, [], ◌∷◌, ◌++◌, length, Result, Ok, Err, refl, sym, ◌∙◌, ap, subst, arith, append_assoc, append-nil, length-append, inl, inr, All}
 use Rattle.std.specs.List.{concat}
 use Rattle.std.proofs.lemmas.Bool.{cases_lt}
 use Rattle.std.proofs.lemmas.Bool.Decides.{nat_tests}
 use Rattle.byte_format.specs.Format.{Format, Stand, EndsInside, Breaks, Reached, At, Broken, judged, onward, reached}
+use Rattle.byte_format.proofs.Lists.{all_left, all_right}
 
 -- bytes in two pieces
 pub reached-append : {S F : Type 0} (g : Format S F) (now : Reached S F) (xs ys : List ℕ) → reached g now (xs ++ ys) ≡ reached g (reached g now xs) ys
@@ -183,3 +184,37 @@ pub reached_says : {S F : Type 0} (g : Format S F) (Says : S → List ℕ → Ty
 reached_says g Says takes keeps start place bytes part says is =
     let ends : EndsInside g start bytes place part = subst (λ r. Leads g start bytes r) is (leads g takes start bytes) in
     (concat ends.fields, (ends.parts, stand_says g Says keeps start place ends.fields [] ends.stand says))
+
+-- a field that stands
+pub reached-whole : {S F : Type 0} (g : Format S F) → TakesBytes g → (s t : S) (field : List ℕ)
+    → length field ≡ g.size s → g.judge s field ≡ Ok t → reached g (At s []) field ≡ At t []
+reached-whole {S} {F} g takes s t field whole ok =
+    reached-field g s [] field (omega (arith, whole, takes.some s)) (omega (arith, whole))
+    ∙ ap (λ (r : Result S F). judged r) ok
+
+-- what each field that stands keeps of the items so far, where each item of the field is so
+pub record KeepsOf {S F : Type 0} (g : Format S F) (Is : ℕ → Type 0) (Says : S → List ℕ → Type 0) : Type 0 where
+  pub on : (s t : S) (front field : List ℕ) → All Is field → Says s front → length field ≡ g.size s
+      → g.judge s field ≡ Ok t → Says t (front ++ field)
+
+stand_says_of : {S F : Type 0} (g : Format S F) (Is : ℕ → Type 0) (Says : S → List ℕ → Type 0) → KeepsOf g Is Says
+    → (s t : S) (fields : List (List ℕ)) (rest front : List ℕ) → All Is (concat fields ++ rest) → Stand g s fields t
+    → Says s front → Says t (front ++ concat fields)
+stand_says_of g Is Says keeps s t [] rest front each is says =
+    subst (λ u. Says u (front ++ [])) is (subst (λ (l : List ℕ). Says s l) (sym (append-nil front)) says)
+stand_says_of g Is Says keeps s t (f ∷ fs) rest front each (whole, (u, (ok, stand))) says =
+    let parted : All Is (f ++ (concat fs ++ rest)) =
+    subst (λ (l : List ℕ). All Is l) (append_assoc f (concat fs) rest) each in
+    subst (λ (l : List ℕ). Says t l) (append_assoc front f (concat fs))
+    (stand_says_of g Is Says keeps u t fs rest (front ++ f) (all_right Is f (concat fs ++ rest) parted) stand
+    (keeps.on s u front f (all_left Is f (concat fs ++ rest) parted) says whole ok))
+
+-- and of every place that such items lead to
+pub reached_says_of : {S F : Type 0} (g : Format S F) (Is : ℕ → Type 0) (Says : S → List ℕ → Type 0) → TakesBytes g
+    → KeepsOf g Is Says → (start place : S) (bytes part : List ℕ) → All Is bytes → Says start []
+    → reached g (At start []) bytes ≡ At place part → (front : List ℕ) × ((bytes ≡ front ++ part) × Says place front)
+reached_says_of g Is Says takes keeps start place bytes part each says is =
+    let ends : EndsInside g start bytes place part =
+    subst (λ r. Leads g start bytes r) is (leads g takes start bytes) in
+    let parted : All Is (concat ends.fields ++ part) = subst (λ (l : List ℕ). All Is l) ends.parts each in
+    (concat ends.fields, (ends.parts, stand_says_of g Is Says keeps start place ends.fields part [] parted ends.stand says))

@@ -1,4 +1,5 @@
 pub mod Formats
 pub mod Keys
+pub mod Lists
 pub mod Numbers
 pub mod Yields

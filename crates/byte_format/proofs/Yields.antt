@@ -2,7 +2,7 @@
 use Rattle.std.proofs.Common.{◌≡◌, ◌<◌, ℕ, ◌+◌, List, [], ◌∷◌, ◌++◌, length, refl, sym, ◌∙◌, ap, arith, append_assoc, append-nil, length-append}
 use Rattle.std.proofs.lemmas.Bool.Decides.{nat_tests}
 use Rattle.byte_format.specs.Format.{Format, Reached, At, given, onward, reached, yields}
-use Rattle.byte_format.proofs.Formats.{onward_more}
+use Rattle.byte_format.proofs.Formats.{TakesBytes, onward_more}
 
 module _ {S F X : Type 0} (g : Format S F) (gives : S → List ℕ → List X) where
   -- bytes in two pieces
@@ -38,3 +38,9 @@ module _ {S F X : Type 0} (g : Format S F) (gives : S → List ℕ → List X) w
       ∙ ap (λ (r : Reached S F). yields g gives r (c ∷ more)) (onward_more g place part b (omega (arith, full)))
       ∙ yields-field place (part ++ b ∷ []) (c ∷ more) (omega arith) (omega (arith, full, length-append part (b ∷ [])))
       ∙ ap (λ (l : List ℕ). gives place l) (append_assoc part (b ∷ []) (c ∷ more))
+
+  -- a field gives what it gives
+  pub yields-whole : TakesBytes g → (s : S) (field : List ℕ) → length field ≡ g.size s
+      → yields g gives (At s []) field ≡ gives s field
+  yields-whole takes s field whole =
+      yields-field s [] field (omega (arith, whole, takes.some s)) (omega (arith, whole))

@@ -1,5 +1,5 @@
 -- The fields of a job in their order, each with its size and its test. A field is judged by what stands before it.
-use Rattle.std.specs.Prelude.{ℕ, ◌+◌, ◌-◌, ◌%◌, ◌^◌, ◌==◌, ◌&&◌, not, nat_le, nat_lt, Bool, List, [], ◌∷◌, ◌++◌, slice_index, drop, Result, Ok, Err, if◌then◌else◌}
+use Rattle.std.specs.Prelude.{ℕ, ◌+◌, ◌-◌, ◌%◌, ◌==◌, ◌&&◌, not, nat_le, nat_lt, Bool, List, [], ◌∷◌, ◌++◌, slice_index, Result, Ok, Err, if◌then◌else◌}
 use Rattle.std.specs.List.{list_any}
 use Rattle.byteorder.specs.Endian.{little_number}
 use Rattle.byte_format.specs.Format.{Format}
@@ -77,7 +77,8 @@ abbrev pub judge_head : HeadStep → HeadNumbers → List ℕ → Result Place J
 judge_head steps.Magic h b = if_right (is_magic b) faults.Magic (Head steps.Version h)
 judge_head steps.Version h b = if_right (slice_index b 0 == 1) faults.Version (Head steps.Kind h)
 judge_head steps.Kind h b =
-    if_right (nat_le (slice_index b 0) 1) faults.Shape (Head steps.Number (record h { kind = kind_at (slice_index b 0) }))
+    if_right (nat_le (slice_index b 0) 1) faults.Shape
+    (Head steps.Number (record h { kind = kind_at (slice_index b 0) }))
 judge_head steps.Number h b = Ok (behind_number (record h { job = little_number 4 b }) h.kind)
 judge_head steps.Levels h b =
     if_right (nat_le (slice_index b 0) 16) faults.Shape (Head steps.Rows (record h { levels = slice_index b 0 }))

@@ -62,4 +62,8 @@ IsWhole (places.ReplayEnd h tally) bytes job =
     job ≡ Replay (record { number = h.job; setting = setting_in h; items = items_in bytes })
 IsWhole (places.Solve step n) bytes job = ⊥
 IsWhole (places.SolveEnd n) bytes job =
-    job ≡ SolveIt (record { number = n.job; nodes = n.nodes; problem = record { sites = sites_in bytes; needs = needs_in bytes } })
+    job ≡ SolveIt (record {
+      number = n.job;
+      nodes = n.nodes;
+      problem = record { sites = sites_in bytes; needs = needs_in bytes };
+    })

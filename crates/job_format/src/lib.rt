@@ -20,6 +20,7 @@ mod judge_head;
 mod judge_place;
 mod judge_replay;
 mod judge_solve;
+mod laws;
 mod place;
 mod via;
 
@@ -29,5 +30,6 @@ pub use held_need::HeldNeed;
 pub use item::Item;
 pub use job::Job;
 pub use judge_place::{judge, place_size};
+pub use laws::{one_reading, one_spelling};
 pub use place::{HeadNumbers, HeadStep, Kind, Place, SolveNumbers, SolveStep, Tally};
 pub use via::Via;
