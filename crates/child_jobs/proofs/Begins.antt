@@ -17,7 +17,8 @@ use Rattle.child_jobs.specs.Heads.{BeginsWith, Head, IsHead, ReplayHead, SolveHe
 use Rattle.child_jobs.specs.Reader.{HasTaken, known_head, state}
 use Rattle.child_jobs.specs.declared.reader.JobReader.{JobReader}
 use Rattle.child_jobs.proofs.Moves.{at_state}
-use Rattle.child_jobs.proofs.Says.{BeginsSo, Says, SaysHead, SaysReplay, SaysSolve, begins_so, place_says, replay_start}
+use Rattle.job_format.proofs.Fronts.{Says, SaysHead, SaysReplay, SaysSolve, replay_start}
+use Rattle.job_format.proofs.Says.{BeginsSo, begins_so, place_says}
 
 -- how long a head is
 replay_long : (number : ℕ) (setting : Setting) (rest : List ℕ) → 24 ≤ length (replay_head number setting ++ rest)

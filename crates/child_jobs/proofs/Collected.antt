@@ -9,7 +9,7 @@ use Rattle.job_format.specs.declared.job.Job.{Job as JobEnum}
 use Rattle.child_jobs.specs.Reader.{HasTaken, lent}
 use Rattle.child_jobs.specs.declared.reader.JobReader.{JobReader}
 use Rattle.child_jobs.proofs.Moves.{take-add}
-use Rattle.child_jobs.proofs.Reading.{one_read}
+use Rattle.job_format.proofs.Reading.{one_read}
 
 -- a breach behind the front is one of the whole
 pub breach_here : (bytes rest : List ℕ) (taken : ℕ) (fault : JobFault) → rest ≡ drop taken bytes

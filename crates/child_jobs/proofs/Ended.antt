@@ -23,8 +23,8 @@ use Rattle.child_jobs.specs.declared.end.JobEnd.{JobEnd}
 use Rattle.child_jobs.specs.declared.end.JobEnd.TheVariants as ends
 use Rattle.child_jobs.specs.declared.reader.JobReader.{JobReader}
 use Rattle.child_jobs.proofs.Moves.{at_state}
-use Rattle.child_jobs.proofs.Reading.{end_part, short_of}
-use Rattle.child_jobs.proofs.Says.{whole_back}
+use Rattle.job_format.proofs.Reading.{end_part, short_of}
+use Rattle.job_format.proofs.Says.{whole_back}
 
 -- a breach, whatever is known of the head
 ends_err : (head : Option Head) (bytes : List ℕ) (given : List Item) (fault : JobFault) → BreaksJob bytes fault

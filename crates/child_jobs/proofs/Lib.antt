@@ -3,7 +3,5 @@ mod Collected
 mod Ended
 mod Heads
 mod Moves
-mod Reading
 mod Rooms
-mod Says
 mod Taken

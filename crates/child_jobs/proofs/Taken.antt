@@ -14,7 +14,7 @@ use Rattle.job_format.specs.declared.place.Place.{Place}
 use Rattle.child_jobs.specs.Reader.{HasTaken, Moves, kept, lent, needs_held, state, stopped}
 use Rattle.child_jobs.specs.declared.reader.JobReader.{JobReader}
 use Rattle.child_jobs.proofs.Moves.{both_give, kept_all, state_start}
-use Rattle.child_jobs.proofs.Reading.{breach_of}
+use Rattle.job_format.proofs.Reading.{breach_of}
 
 -- of a value, or of an error, what follows from what is known of it
 pub if_ok : {T E : Type 0} (r : Result T E) (P Q : T → Type 0) → ((x : T) → P x → Q x) → IfOk r P → IfOk r Q
