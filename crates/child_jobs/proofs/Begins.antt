@@ -1,11 +1,9 @@
 -- The head that a reader knows stands at the front of the bytes that it has taken.
-use Rattle.std.proofs.Common.{◌≡◌, ◌<◌, ◌≤◌, ℕ, ◌+◌, List, [], ◌∷◌, ◌++◌, length, take, slice_index, refl, sym, ◌∙◌, ap, subst, arith, append_assoc, append-nil, length-append}
+use Rattle.std.proofs.Common.{◌≡◌, ◌<◌, ◌≤◌, ℕ, ◌+◌, List, [], ◌++◌, length, take, slice_index, sym, ◌∙◌, ap, arith, append_assoc, append-nil, length-append}
 use Rattle.std.proofs.lemmas.List.{length-take}
 use Rattle.hash_family.specs.Setting.{Setting}
-use Rattle.byteorder.specs.Endian.{little_bytes}
-use Rattle.byte_format.specs.Format.{At, reached}
 use Rattle.job_format.specs.Job.{replay_head, solve_head}
-use Rattle.job_format.specs.Places.{head_size, job_format, job_start, place_size}
+use Rattle.job_format.specs.Places.{head_size, place_size}
 use Rattle.job_format.specs.Read.{setting_in}
 use Rattle.job_format.specs.declared.item.Item.{Item}
 use Rattle.job_format.specs.declared.place.HeadNumbers.{HeadNumbers}
@@ -13,8 +11,8 @@ use Rattle.job_format.specs.declared.place.HeadStep.{HeadStep}
 use Rattle.job_format.specs.declared.place.HeadStep.TheVariants as steps
 use Rattle.job_format.specs.declared.place.Place.{Place}
 use Rattle.job_format.specs.declared.place.Place.TheVariants as places
-use Rattle.child_jobs.specs.Heads.{BeginsWith, Head, IsHead, ReplayHead, SolveHead, head_at, head_bytes}
-use Rattle.child_jobs.specs.Reader.{HasTaken, known_head, state}
+use Rattle.child_jobs.specs.Heads.{BeginsWith, Head, ReplayHead, SolveHead, head_at, head_bytes}
+use Rattle.child_jobs.specs.Reader.{HasTaken, known_head}
 use Rattle.child_jobs.specs.declared.reader.JobReader.{JobReader}
 use Rattle.child_jobs.proofs.Moves.{at_state}
 use Rattle.job_format.proofs.Fronts.{Says, SaysHead, SaysReplay, SaysSolve, replay_start}

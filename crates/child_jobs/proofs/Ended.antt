@@ -1,9 +1,8 @@
 -- What a reader's end says of its bytes.
-use Rattle.std.proofs.Common.{◌≡◌, ◌≤◌, ℕ, Bool, true, false, if◌then◌else◌, List, [], ◌∷◌, ◌++◌, length, map, take, Option, None, Some, Result, Ok, Err, IfOk, IfErr, ◌⊎◌, refl, sym, ◌∙◌, ap, subst, arith, append-nil, inl, inr}
+use Rattle.std.proofs.Common.{◌≡◌, ◌≤◌, ℕ, Bool, true, false, if◌then◌else◌, List, [], ◌∷◌, ◌++◌, length, take, Option, None, Some, Result, Ok, Err, IfOk, IfErr, ◌⊎◌, refl, sym, ◌∙◌, ap, subst, arith, append-nil, inl, inr}
 use Rattle.bound_certificate.specs.Limits.{IsWithin}
-use Rattle.byte_format.specs.Format.{At, Reached, reached}
-use Rattle.job_format.specs.Given.{items_in, needs_in, sites_in}
-use Rattle.job_format.specs.Held.{need_of}
+use Rattle.byte_format.specs.Format.{At, reached}
+use Rattle.job_format.specs.Given.{items_in}
 use Rattle.job_format.specs.Job.{Replay as ReplayIt, ReplayJob, Solve as SolveIt, SolveJob, SpellsReplay, SpellsSolve}
 use Rattle.job_format.specs.Places.{job_format, job_start}
 use Rattle.job_format.specs.Read.{BreaksJob, is_end, setting_in}
@@ -17,7 +16,7 @@ use Rattle.job_format.specs.declared.place.SolveNumbers.{SolveNumbers}
 use Rattle.job_format.specs.declared.place.Tally.{Tally}
 use Rattle.child_jobs.specs.Ends.{Ends}
 use Rattle.child_jobs.specs.Heads.{Head, ReplayHead, SolveHead, head_at}
-use Rattle.child_jobs.specs.Reader.{HasTaken, kept, known_head, needs_held, state}
+use Rattle.child_jobs.specs.Reader.{HasTaken, known_head, needs_held}
 use Rattle.child_jobs.specs.Rooms.{HasRoom}
 use Rattle.child_jobs.specs.declared.end.JobEnd.{JobEnd}
 use Rattle.child_jobs.specs.declared.end.JobEnd.TheVariants as ends

@@ -1,9 +1,9 @@
 -- A head that is there stays.
-use Rattle.std.proofs.Common.{◌≡◌, ℕ, ◌+◌, ◌-◌, ◌==◌, ◌&&◌, not, nat_le, nat_lt, Bool, true, false, List, [], ◌∷◌, ◌++◌, slice_index, IfOk, if◌then◌else◌, Option, None, Some, Result, Ok, subst}
+use Rattle.std.proofs.Common.{◌≡◌, ℕ, ◌+◌, ◌-◌, ◌==◌, nat_le, Bool, true, false, List, [], ◌∷◌, ◌++◌, slice_index, IfOk, if◌then◌else◌, Some, Result, Ok, subst}
 use Rattle.byteorder.specs.Endian.{little_number}
 use Rattle.byte_format.specs.Keys.{key_words}
 use Rattle.flow_keys.specs.Key.{is_valid}
-use Rattle.job_format.specs.Places.{behind_hop, behind_item, behind_need, has_site, if_right, is_counted, judge_place, judge_solve, may_follow, with_frame, with_weight}
+use Rattle.job_format.specs.Places.{behind_item, behind_need, if_right, judge_place, judge_solve, may_follow, with_frame, with_weight}
 use Rattle.job_format.specs.Job.{weight_limit}
 use Rattle.job_format.specs.declared.fault.JobFault.{JobFault}
 use Rattle.job_format.specs.declared.fault.JobFault.TheVariants as faults

@@ -1,5 +1,5 @@
 -- A reader's steps.
-use Rattle.std.proofs.Common.{◌≡◌, ◌<◌, ◌≤◌, ℕ, ◌+◌, false, Bool, if◌then◌else◌, List, [], ◌++◌, length, map, take, drop, Option, None, Some, Result, Ok, Err, refl, sym, ◌∙◌, ap, subst, arith, append_assoc, append-nil, take-append-drop, length-take-le}
+use Rattle.std.proofs.Common.{◌≡◌, ◌<◌, ◌≤◌, ℕ, ◌+◌, false, Bool, if◌then◌else◌, List, [], ◌++◌, length, map, take, drop, Option, None, Result, refl, sym, ◌∙◌, ap, subst, arith, append_assoc, append-nil, take-append-drop, length-take-le}
 use Rattle.std.specs.Option.{option_to_list}
 use Rattle.std.proofs.lemmas.List.{drop-take, map-append, take-take}
 use Rattle.bound_certificate.specs.declared.need.Need.{Need}
@@ -14,8 +14,8 @@ use Rattle.job_format.specs.declared.fault.JobFault.{JobFault}
 use Rattle.job_format.specs.declared.held_need.HeldNeed.{HeldNeed}
 use Rattle.job_format.specs.declared.item.Item.{Item}
 use Rattle.job_format.specs.declared.place.Place.{Place}
-use Rattle.child_jobs.specs.Heads.{Head, head_at}
-use Rattle.child_jobs.specs.Reader.{Begins, Moves, kept, known_head, needs_held, state, state_of, stopped}
+use Rattle.child_jobs.specs.Heads.{head_at}
+use Rattle.child_jobs.specs.Reader.{Begins, Moves, kept, needs_held, state, state_of, stopped}
 use Rattle.child_jobs.specs.Rooms.{Completes}
 use Rattle.child_jobs.specs.declared.reader.JobReader.{JobReader}
 use Rattle.child_jobs.proofs.Heads.{head_stays}

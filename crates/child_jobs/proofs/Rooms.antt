@@ -1,11 +1,10 @@
 -- The room of a reader, from field to field.
-use Rattle.std.proofs.Common.{◌≡◌, ◌≤◌, ◌<◌, ℕ, ◌+◌, ◌-◌, ◌==◌, ◌&&◌, not, nat_le, nat_lt, Bool, true, false, Option, List, [], ◌∷◌, ◌++◌, length, slice_index, IfOk, if◌then◌else◌, Result, Ok, refl, sym, ◌∙◌, ap, subst, arith}
+use Rattle.std.proofs.Common.{◌≡◌, ◌≤◌, ℕ, ◌+◌, ◌-◌, ◌==◌, ◌&&◌, not, nat_le, nat_lt, Bool, true, false, Option, List, [], ◌∷◌, ◌++◌, length, slice_index, IfOk, if◌then◌else◌, Result, Ok, refl, sym, ◌∙◌, ap, subst, arith}
 use Rattle.std.proofs.lemmas.Bool.Decides.{nat_tests}
 use Rattle.std.proofs.lemmas.List.{length-map}
 use Rattle.std.specs.Option.{option_to_list}
 use Rattle.byteorder.specs.Endian.{little_number}
 use Rattle.byte_format.specs.Keys.{key_words}
-use Rattle.flow_keys.specs.Key.{is_valid}
 use Rattle.hash_family.specs.Limits.{is_rows, is_width}
 use Rattle.job_format.specs.Given.{item_gives, need_gives, site_gives, step_need, step_site}
 use Rattle.bound_certificate.specs.declared.need.Need.{Need}
@@ -13,7 +12,7 @@ use Rattle.bound_certificate.specs.declared.site.Site.{Site}
 use Rattle.job_format.specs.Held.{need_of}
 use Rattle.job_format.specs.declared.held_need.HeldNeed.{HeldNeed}
 use Rattle.job_format.specs.declared.item.Item.{Item}
-use Rattle.job_format.specs.Places.{behind_hop, behind_item, behind_need, behind_number, behind_site, has_site, if_right, is_counted, is_magic, kind_at, judge_head, judge_place, judge_solve, may_follow, with_frame, with_weight}
+use Rattle.job_format.specs.Places.{behind_hop, behind_need, behind_number, has_site, if_right, is_counted, is_magic, kind_at, judge_head, judge_place, judge_solve, may_follow, with_frame, with_weight}
 use Rattle.job_format.specs.declared.fault.JobFault.{JobFault}
 use Rattle.job_format.specs.declared.fault.JobFault.TheVariants as faults
 use Rattle.job_format.specs.declared.place.HeadNumbers.{HeadNumbers}
@@ -28,7 +27,7 @@ use Rattle.job_format.specs.declared.place.SolveStep.{SolveStep}
 use Rattle.job_format.specs.declared.place.SolveStep.TheVariants as solves
 use Rattle.job_format.specs.declared.place.Tally.{Tally}
 use Rattle.child_jobs.specs.declared.reader.JobReader.{JobReader}
-use Rattle.child_jobs.specs.Rooms.{Completes, HasRoom, ends_frame, head_sound, is_count, is_left, is_sketch, is_sound, most_items, most_needs, most_sites, step_needs, step_sites, step_sound}
+use Rattle.child_jobs.specs.Rooms.{Completes, HasRoom, ends_frame, head_sound, is_count, is_left, is_sketch, most_items, most_needs, most_sites, step_needs, step_sites, step_sound}
 
 -- what holds of where a right field leads
 pub right_if : (P : Place → Type 0) (test : Bool) (fault : JobFault) (to : Place) → (test ≡ true → P to)

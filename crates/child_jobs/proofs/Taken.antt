@@ -1,9 +1,9 @@
 -- The bytes that a reader has taken.
-use Rattle.std.proofs.Common.{◌≡◌, ◌<◌, ℕ, Bool, true, false, if◌then◌else◌, List, [], ◌++◌, map, take, Option, None, Some, Result, Ok, Err, IfOk, IfErr, All, refl, sym, ◌∙◌, ap, arith, append_assoc, append-nil}
+use Rattle.std.proofs.Common.{◌≡◌, ◌<◌, ℕ, Bool, true, false, if◌then◌else◌, List, [], ◌++◌, map, take, None, Result, Ok, Err, IfOk, IfErr, All, refl, sym, ◌∙◌, ap, arith, append_assoc, append-nil}
 use Rattle.std.proofs.lemmas.List.Elements.{All-append, All-take}
 use Rattle.byte_format.specs.Format.{At, Broken, Reached, reached, yields}
 use Rattle.byte_format.proofs.Formats.{reached-append, reached-broken}
-use Rattle.job_format.specs.Given.{item_gives, items_in, need_gives, site_gives}
+use Rattle.job_format.specs.Given.{item_gives, need_gives, site_gives}
 use Rattle.job_format.specs.Places.{job_format, job_start}
 use Rattle.job_format.specs.Read.{BreaksJob}
 use Rattle.job_format.specs.declared.fault.JobFault.{JobFault}

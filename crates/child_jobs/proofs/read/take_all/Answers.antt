@@ -1,4 +1,4 @@
-use Rattle.std.proofs.Common.{[], ◌++◌, length, take, ap, arith, length-drop, inr, rules}
+use Rattle.std.proofs.Common.{[], length, take, ap, arith, length-drop, inr, rules}
 use Rattle.child_jobs.proofs.Collected.{breach_here, taken_on}
 use Rattle.child_jobs.proofs.read.take_all.Goals as goal
 

@@ -1,4 +1,4 @@
-use Rattle.std.proofs.Common.{◌≡◌, ℕ, List, ◌++◌, None, take, ◌∙◌, sym, ap}
+use Rattle.std.proofs.Common.{◌≡◌, ℕ, List, ◌++◌, take, ◌∙◌, sym, ap}
 use Rattle.byte_format.specs.Format.{Broken, Reached, reached}
 use Rattle.job_format.specs.Places.{job_format}
 use Rattle.job_format.specs.Read.{BreaksJob}

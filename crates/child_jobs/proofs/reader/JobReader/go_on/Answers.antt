@@ -1,13 +1,6 @@
-use Rattle.std.proofs.Common.{◌≡◌, ◌+◌, ◌≤◌, ℕ, List, Bool, false, ◌++◌, length, map, sym, ◌∙◌, ap, subst, arith, length-append}
-use Rattle.std.proofs.lemmas.List.{length-map}
+use Rattle.std.proofs.Common.{length, ◌∙◌, ap, arith, length-append}
 use Rattle.std.specs.Option.{option_to_list}
-use Rattle.bound_certificate.specs.declared.need.Need.{Need}
-use Rattle.bound_certificate.specs.declared.site.Site.{Site}
-use Rattle.job_format.specs.Given.{item_gives, need_gives, site_gives}
-use Rattle.job_format.specs.Held.{need_of}
-use Rattle.job_format.specs.declared.held_need.HeldNeed.{HeldNeed}
-use Rattle.job_format.specs.declared.item.Item.{Item}
-use Rattle.child_jobs.specs.Rooms.{HasRoom, ends_frame}
+use Rattle.child_jobs.specs.Rooms.{ends_frame}
 use Rattle.child_jobs.proofs.Rooms.{RoomBehind, items_few, needs_few, room_as, room_with, sites_few}
 use Rattle.child_jobs.proofs.reader.JobReader.go_on.Goals as goal
 

@@ -1,4 +1,4 @@
-use Rattle.std.proofs.Common.{[], refl, sym, ap, rules}
+use Rattle.std.proofs.Common.{refl, rules}
 use Rattle.child_jobs.proofs.Taken.{starts}
 use Rattle.child_jobs.proofs.reader.JobReader.new.Goals as goal
 

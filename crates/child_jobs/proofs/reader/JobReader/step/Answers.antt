@@ -1,12 +1,11 @@
-use Rattle.std.proofs.Common.{◌≡◌, ◌+◌, take, ℕ, Result, Ok, Err, refl, sym, ◌∙◌, ap, arith}
+use Rattle.std.proofs.Common.{◌≡◌, ◌+◌, take, ℕ, Result, Err, refl, sym, ◌∙◌, ap, arith}
 use Rattle.byte_format.specs.Format.{judged}
 use Rattle.job_format.specs.Given.{item_gives, need_gives, site_gives}
 use Rattle.job_format.specs.Places.{judge_place}
 use Rattle.job_format.specs.declared.fault.JobFault.{JobFault}
 use Rattle.job_format.specs.declared.place.Place.{Place}
 use Rattle.child_jobs.specs.Reader.{state}
-use Rattle.child_jobs.specs.Rooms.{Completes}
-use Rattle.child_jobs.proofs.Moves.{IsPut, Goes, broken_whole, field_leads, field_moves, part_moves}
+use Rattle.child_jobs.proofs.Moves.{IsPut, broken_whole, field_leads, field_moves, part_moves}
 use Rattle.child_jobs.proofs.reader.JobReader.step.Goals as goal
 
 pub returns-then-self-count-clause-moves : goal.returns-then-self-count-clause-moves
