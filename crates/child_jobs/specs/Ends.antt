@@ -1,5 +1,5 @@
 -- What the end of input says of a job.
-use Rattle.std.specs.Prelude.{◌≡◌, ℕ, List, Option, None, Some, Result, Ok, Err}
+use Rattle.std.specs.Prelude.{ℕ, List, Option, None, Some, Result, Ok, Err}
 use Rattle.job_format.specs.Job.{SpellsReplay, SpellsSolve}
 use Rattle.job_format.specs.Read.{BreaksJob}
 use Rattle.job_format.specs.declared.fault.JobFault.{JobFault}

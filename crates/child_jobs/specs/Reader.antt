@@ -1,7 +1,9 @@
 -- Which bytes a reader of a job has taken, and which items it has given out.
-use Rattle.std.specs.Prelude.{◌≡◌, ◌≤◌, ℕ, List, [], ◌++◌, take, Option, None, Some, if◌then◌else◌}
-use Rattle.byte_format.specs.Format.{Reached, At, Broken, reached}
-use Rattle.job_format.specs.Given.{items_in}
+use Rattle.std.specs.Prelude.{◌≡◌, ◌<◌, ℕ, List, [], ◌++◌, map, take, Option, None, Some, All, if◌then◌else◌}
+use Rattle.bound_certificate.specs.declared.need.Need.{Need}
+use Rattle.byte_format.specs.Format.{Reached, At, Broken, reached, yields}
+use Rattle.job_format.specs.Given.{item_gives, items_in, need_gives, needs_in, site_gives, sites_in}
+use Rattle.job_format.specs.Held.{need_of}
 use Rattle.job_format.specs.Places.{job_format, job_start}
 use Rattle.job_format.specs.declared.fault.JobFault.{JobFault}
 use Rattle.job_format.specs.declared.item.Item.{Item}
@@ -32,8 +34,33 @@ lent reader = if reader.ended then reader.frame.items else []
 abbrev pub kept : JobReader → List Item
 kept reader = if reader.ended then [] else reader.frame.items
 
--- it has taken these bytes, and given out these items
+-- the needs that it holds
+abbrev pub needs_held : JobReader → List Need
+needs_held reader = map need_of reader.needs.items
+
+-- it has taken these bytes, each of which fits into one, and given out these items, and goes on
 pub record HasTaken (reader : JobReader) (bytes : List ℕ) (given : List Item) : Type 0 where
+  pub going : stopped reader ≡ None
   pub leads : state reader ≡ reached job_format (At job_start []) bytes
   pub gives : items_in bytes ≡ given ++ kept reader
-  pub unbuilt : 45 ≤ reader.filled
+  pub sites : sites_in bytes ≡ reader.sites.items
+  pub needs : needs_in bytes ≡ needs_held reader
+  pub fit : All (λ byte. byte < 256) bytes
+
+-- these bytes led it on
+pub record Moves (old new : JobReader) (bytes : List ℕ) : Type 0 where
+  pub going : stopped new ≡ None
+  pub leads : state new ≡ reached job_format (state old) bytes
+  pub items : new.frame.items ≡ kept old ++ yields job_format item_gives (state old) bytes
+  pub sites : new.sites.items ≡ old.sites.items ++ yields job_format site_gives (state old) bytes
+  pub needs : needs_held new ≡ needs_held old ++ yields job_format need_gives (state old) bytes
+  pub head : (head : Head) → known_head old ≡ Some head → known_head new ≡ Some head
+
+-- it is the same but for a frame that was lent
+pub record Begins (old new : JobReader) : Type 0 where
+  pub going : stopped new ≡ None
+  pub leads : state new ≡ state old
+  pub items : new.frame.items ≡ kept old
+  pub sites : new.sites.items ≡ old.sites.items
+  pub needs : needs_held new ≡ needs_held old
+  pub head : known_head new ≡ known_head old

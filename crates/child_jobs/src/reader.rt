@@ -1,16 +1,26 @@
 //! A job, read in pieces.
-ghost use Rattle.std.specs.Prelude.{◌≡◌, ◌≤◌, ◌<◌, ◌⊎◌, ◌++◌, [], None, Some, Ok, Err, List, ℕ, length, take, IfOk, IfErr, IsErr};
+ghost use Rattle.std.specs.Prelude.{◌≡◌, ◌≤◌, ◌<◌, ◌⊎◌, ◌+◌, ◌++◌, [], None, Some, Ok, Err, List, ℕ, true, false, length, take, drop, map, IfOk, IfErr, IsErr, All, vec_capacity};
+ghost use Rattle.std.specs.Option.{option_map, option_to_list};
+ghost use Rattle.byte_format.specs.Format.{Broken, reached};
+ghost use Rattle.job_format.specs.Given.{item_gives, need_gives, site_gives};
+ghost use Rattle.job_format.specs.Held.{need_of};
 ghost use Rattle.job_format.specs.Job.{frame_limit};
+ghost use Rattle.job_format.specs.Places.{job_format, job_start, judge_place, place_size};
 ghost use Rattle.job_format.specs.Read.{BreaksJob};
+ghost use Rattle.job_format.specs.Rooms.{has_room};
 ghost use Rattle.job_format.specs.declared.fault.JobFault.{JobFault as Fault};
 ghost use Rattle.job_format.specs.declared.fault.JobFault.TheVariants as faults;
 ghost use Rattle.job_format.specs.declared.item.Item.{Item as AnItem};
-ghost use Rattle.std.specs.Option.{option_map};
 ghost use Rattle.child_jobs.specs.Ends.{Ends};
-ghost use Rattle.child_jobs.specs.Heads.{BeginsWith, Head, head_at, head_of};
+ghost use Rattle.child_jobs.specs.Heads.{BeginsWith, Head, head_of};
+ghost use Rattle.child_jobs.specs.Rooms.{Completes, HasRoom, ends_frame};
 
 use crate::{JobEnd, JobHead};
-use job_format::{HeadNumbers, HeadStep, Item, JobFault, Kind, Place};
+use bound_certificate::Site;
+use job_format::{
+    HeadNumbers, HeadStep, HeldNeed, Item, JobFault, Kind, Place, item_at, judge, need_at,
+    place_size, site_at,
+};
 use mon_io::Memory;
 use std::alloc::Global;
 
@@ -23,19 +33,43 @@ pub struct JobReader {
     stop: Option<JobFault>,
     frame: Vec<Item>,
     ended: bool,
-    ghost short: { filled < 45 },
-    ghost few: { length frame.items ≤ 4096 },
-    ghost none: { head_at place ≡ None },
+    sites: Vec<Site>,
+    needs: Vec<HeldNeed>,
+    ghost room: { HasRoom place ended (length frame.items) (length sites.items) (length needs.items) },
+    ghost via: { has_room place ≡ true },
+    ghost frame_room: { 4096 ≤ vec_capacity frame },
+    ghost site_room: { 32 ≤ vec_capacity sites },
+    ghost need_room: { 64 ≤ vec_capacity needs },
+    ghost short: { filled < place_size place },
+    ghost held_room: { place_size place ≤ 44 },
 }
 
 impl JobReader {
-    ghost use Rattle.child_jobs.specs.Reader.{HasTaken, known_head, lent, stopped};
+    ghost use Rattle.child_jobs.specs.Reader.{Begins, HasTaken, Moves, known_head, lent, state, stopped};
 
     /// A reader that has taken no byte. It takes the memory that reading wants.
     pub fn new(alloc: Global) -> Result<JobReader, Memory>
         ensures start { IfOk result (λ reader. HasTaken reader [] []) }
     {
-        Err(Memory)
+        let Ok(frame) = Vec::with_capacity(alloc, 4096) else {
+            return Err(Memory);
+        };
+        let Ok(sites) = Vec::with_capacity(alloc, 32) else {
+            return Err(Memory);
+        };
+        let Ok(needs) = Vec::with_capacity(alloc, 64) else {
+            return Err(Memory);
+        };
+        Ok(JobReader {
+            place: first_place(),
+            held: [0; 44],
+            filled: 0,
+            stop: None,
+            frame,
+            ended: false,
+            sites,
+            needs,
+        })
     }
 
     /// Takes bytes of the piece up to its end or that of a frame, and says how many, at least one of a piece that isn't
@@ -45,27 +79,114 @@ impl JobReader {
         ensures bound { IfOk result (λ n. n ≤ length piece.now) }
         ensures takes { IfOk result (λ n. (bytes : List ℕ) (given : List AnItem) → HasTaken self.old bytes given
             → HasTaken self.new (bytes ++ take n piece.now) (given ++ lent self.new)) }
-        ensures head { IfOk result (λ n. (head : Head) → known_head self.old ≡ Some head → known_head self.new ≡ Some head) }
-        ensures breach { IfErr result (λ fault. (bytes rest : List ℕ) (given : List AnItem) → HasTaken self.old bytes given
-            → BreaksJob (bytes ++ (piece.now ++ rest)) fault) }
+        ensures head { IfOk result (λ n. (head : Head) → known_head self.old ≡ Some head
+            → known_head self.new ≡ Some head) }
+        ensures breach { IfErr result (λ fault. (bytes rest : List ℕ) (given : List AnItem)
+            → HasTaken self.old bytes given → BreaksJob (bytes ++ (piece.now ++ rest)) fault) }
         ensures stops { IfErr result (λ fault. stopped self.new ≡ Some fault) }
         ensures again { (fault : Fault) → stopped self.old ≡ Some fault → result ≡ Err fault }
     {
-        let _ = piece.len();
-        let fault = match self.stop {
-            Some(fault) => fault,
-            None => JobFault::Memory,
-        };
-        self.stop = Some(fault);
-        Err(fault)
+        if let Some(fault) = self.stop {
+            return Err(fault);
+        }
+        check_bytes(piece);
+        self.begin();
+        self.take_on(piece)
     }
 
-    /// The head, Some exactly once it is there whole. It takes no memory.
-    pub fn head(&self) -> Option<JobHead>
-        ensures value { option_map head_of result ≡ known_head self.now }
-        ensures begins { (bytes : List ℕ) (given : List AnItem) → HasTaken self.now bytes given → BeginsWith bytes (known_head self.now) }
+    // Forgets the frame that was lent.
+    fn begin(&mut self)
+        requires going { stopped self.old ≡ None }
+        ensures begins { Begins self.old self.new }
+        ensures ended { self.new.ended ≡ false }
     {
-        None
+        if self.ended {
+            self.frame.clear();
+            self.ended = false;
+        }
+    }
+
+    // Takes bytes up to the end of the piece or of a frame.
+    fn take_on(&mut self, piece: &[u8]) -> Result<usize, JobFault>
+        requires going { stopped self.old ≡ None }
+        requires within { self.old.ended ≡ false }
+        ensures moves { IfOk result (λ n. Moves self.old self.new (take n piece.now)) }
+        ensures some { 0 < length piece.now → IfOk result (λ n. 0 < n) }
+        ensures bound { IfOk result (λ n. n ≤ length piece.now) }
+        ensures breach { IfErr result (λ fault. reached job_format (state self.old) piece.now ≡ Broken fault) }
+        ensures stops { IfErr result (λ fault. stopped self.new ≡ Some fault) }
+    {
+        let mut taken = 0;
+        while taken < piece.len() {
+            match self.step(rest_of(piece, taken)) {
+                Ok(count) => taken += count,
+                Err(fault) => return Err(fault),
+            }
+            if self.ended {
+                return Ok(taken);
+            }
+        }
+        Ok(taken)
+    }
+
+    // Takes bytes up to the end of a field.
+    fn step(&mut self, piece: &[u8]) -> Result<usize, JobFault>
+        requires some { 0 < length piece.now }
+        requires going { stopped self.old ≡ None }
+        requires within { self.old.ended ≡ false }
+        ensures moves { IfOk result (λ n. Moves self.old self.new (take n piece.now)) }
+        ensures some { IfOk result (λ n. 0 < n) }
+        ensures bound { IfOk result (λ n. n ≤ length piece.now) }
+        ensures breach { IfErr result (λ fault. reached job_format (state self.old) piece.now ≡ Broken fault) }
+        ensures stops { IfErr result (λ fault. stopped self.new ≡ Some fault) }
+    {
+        let size = place_size(&self.place);
+        let count = (size - self.filled).min(piece.len());
+        put(&mut self.held, self.filled, &piece[..count]);
+        if self.filled + count < size {
+            self.filled += count;
+            return Ok(count);
+        }
+        match judge(&self.place, &self.held[..size]) {
+            Ok(place) => {
+                let item = item_at(&self.place, &self.held[..size]);
+                let site = site_at(&self.place, &self.held[..size]);
+                let need = need_at(&self.place, &self.held[..size]);
+                self.go_on(place, item, site, need);
+                Ok(count)
+            }
+            Err(fault) => {
+                self.stop = Some(fault);
+                Err(fault)
+            }
+        }
+    }
+
+    // Goes on at a place, with what the field before it completed.
+    fn go_on(
+        &mut self,
+        place: Place,
+        item: Option<Item>,
+        site: Option<Site>,
+        need: Option<HeldNeed>,
+    )
+        requires field { (field : List ℕ) × Completes self.old.place place field item site need }
+        requires via { has_room place ≡ true }
+        requires within { self.old.ended ≡ false }
+        ensures place { self.new.place ≡ place }
+        ensures filled { self.new.filled ≡ 0 }
+        ensures stop { self.new.stop ≡ self.old.stop }
+        ensures items { self.new.frame.items ≡ self.old.frame.items ++ option_to_list item }
+        ensures sites { self.new.sites.items ≡ self.old.sites.items ++ option_to_list site }
+        ensures needs { self.new.needs.items ≡ self.old.needs.items ++ option_to_list need }
+    {
+        let _ = place_size(&place);
+        self.ended = ends_frame(&self.place, &place);
+        keep(&mut self.frame, item);
+        keep(&mut self.sites, site);
+        keep(&mut self.needs, need);
+        self.place = place;
+        self.filled = 0;
     }
 
     /// The items of the frame that the last `feed` ended, at most 4,096; empty where it ended none.
@@ -76,6 +197,15 @@ impl JobReader {
         if self.ended { &self.frame } else { &[] }
     }
 
+    /// The head, Some exactly once it is there whole. It takes no memory.
+    pub fn head(&self) -> Option<JobHead>
+        ensures value { option_map head_of result ≡ known_head self.now }
+        ensures begins { (bytes : List ℕ) (given : List AnItem) → HasTaken self.now bytes given
+            → BeginsWith bytes (known_head self.now) }
+    {
+        JobHead::at(&self.place)
+    }
+
     /// What the job was, at the end of its bytes; else the first breach, `Short` where they end inside the job, or
     /// `Memory`. It takes memory.
     pub fn finish(self, alloc: Global) -> Result<JobEnd, JobFault>
@@ -83,9 +213,77 @@ impl JobReader {
             → (result ≡ Err faults.Memory) ⊎ Ends bytes (known_head self) given result }
         ensures again { (fault : Fault) → stopped self ≡ Some fault → result ≡ Err fault }
     {
-        match self.stop {
-            Some(fault) => Err(fault),
-            None => Err(JobFault::Memory),
+        if let Some(fault) = self.stop {
+            return Err(fault);
+        }
+        match &self.place {
+            Place::ReplayEnd { .. } => Ok(JobEnd::Replay),
+            Place::SolveEnd { numbers } => {
+                JobEnd::of_solve(alloc, numbers.nodes, self.sites, self.needs)
+            }
+            _ => Err(JobFault::Short),
         }
     }
+}
+
+// Where a job begins.
+fn first_place() -> Place
+    ensures { result ≡ job_start }
+{
+    Place::Head {
+        step: HeadStep::Magic,
+        numbers: HeadNumbers {
+            kind: Kind::Replay,
+            job: 0,
+            levels: 0,
+            rows: 0,
+            width: 0,
+            heap: 0,
+            seed: 0,
+        },
+    }
+}
+
+// Whether a field that leads from one place to another ends a frame.
+fn ends_frame(from: &Place, to: &Place) -> bool
+    ensures { result ≡ ends_frame from.now to.now }
+{
+    matches!(from, Place::Weight { .. }) && matches!(to, Place::Count { .. })
+}
+
+// Keeps what was given behind what is kept, which has the room.
+fn keep<T>(kept: &mut Vec<T>, given: Option<T>)
+where
+    T: Drop,
+    requires { length kept.old.items + length (option_to_list given) ≤ vec_capacity kept.old }
+    ensures items { kept.new.items ≡ kept.old.items ++ option_to_list given }
+    ensures room { vec_capacity kept.old ≤ vec_capacity kept.new }
+{
+    if let Some(one) = given {
+        kept.push(one).unwrap();
+    }
+}
+
+// Each byte is below 256, as its type says.
+fn check_bytes(bytes: &[u8])
+    ensures { All (λ byte. byte < 256) bytes.now }
+{
+    let _ = bytes.len();
+}
+
+// The bytes from a place on.
+fn rest_of(bytes: &[u8], taken: usize) -> &[u8]
+    requires { taken ≤ length bytes.now }
+    ensures { result.now ≡ drop taken bytes.now }
+{
+    &bytes[taken..]
+}
+
+// Puts a piece behind what is held.
+fn put(held: &mut [u8], filled: usize, piece: &[u8])
+    requires { filled + length piece.now ≤ length held.old }
+    ensures size { length held.new ≡ length held.old }
+    ensures bytes { take (filled + length piece.now) held.new ≡ take filled held.old ++ piece.now }
+{
+    held[filled..filled + piece.len()].copy_from_slice(piece);
 }
