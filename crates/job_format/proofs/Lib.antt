@@ -14,5 +14,6 @@ mod SolveFronts
 mod Solves
 pub mod Spelled
 pub mod Spellings
+pub mod Tallies
 mod Vectors
 pub mod Walks
