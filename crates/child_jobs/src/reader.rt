@@ -181,7 +181,8 @@ impl JobReader {
         ensures needs { self.new.needs.items ≡ self.old.needs.items ++ option_to_list need }
     {
         let _ = place_size(&place);
-        self.ended = ends_frame(&self.place, &place);
+        let ended = ends_frame(&self.place, &place);
+        self.ended = ended;
         keep(&mut self.frame, item);
         keep(&mut self.sites, site);
         keep(&mut self.needs, need);
