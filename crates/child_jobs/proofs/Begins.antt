@@ -43,21 +43,15 @@ no_replay : (step : HeadStep) (h : HeadNumbers) (front part : List ℕ) → leng
     → SaysHead step h front → (number : ℕ) (setting : Setting) (rest : List ℕ)
     → front ++ part ≡ replay_head number setting ++ rest → ⊥
 no_replay step h front part less says number setting rest is =
-    omega (
-      arith,
-      less,
-      front_short step h front says,
-      replay_long number setting rest,
-      ap length is,
-      length-append
-          front part,
-    )
+    let short : length front + head_size step ≤ 24 = front_short step h front says in
+    let long : 24 ≤ length (replay_head number setting ++ rest) = replay_long number setting rest in
+    omega (arith, ap length is, length-append front part)
 
 -- nor one of a solve job: the bytes are fewer, or say another kind
 other_kind : (number other : ℕ) (more part rest : List ℕ)
     → (replay_start number ++ more) ++ part ≡ solve_head other ++ rest → ⊥
-other_kind number other more part rest is = let kinds : 0 ≡ 1 = ap (λ (l : List ℕ). slice_index l 5) is in
-    absurd (omega (arith, kinds))
+other_kind number other more part rest is =
+    let kinds : 0 ≡ 1 = ap (λ (l : List ℕ). slice_index l 5) is in omega (arith, kinds)
 
 few_bytes : (front part : List ℕ) (number : ℕ) (rest : List ℕ) → length front + length part < 10
     → front ++ part ≡ solve_head number ++ rest → ⊥
@@ -101,14 +95,14 @@ with_part : (head : Head) (bytes front part more : List ℕ) → bytes ≡ front
 with_part head bytes front part more parts is =
     (more ++ part, parts ∙ ap (λ (l : List ℕ). l ++ part) is ∙ append_assoc (head_bytes head) more part)
 
-begins_replay : (h : HeadNumbers) (bytes front part : List ℕ) → bytes ≡ front ++ part → (more : List ℕ)
-    × SaysReplay h front more
+begins_replay : (h : HeadNumbers) (bytes front part : List ℕ) → bytes ≡ front ++ part
+    → (more : List ℕ) × SaysReplay h front more
     → (rest : List ℕ) × (bytes ≡ replay_head h.job (setting_in h) ++ rest)
 begins_replay h bytes front part parts (more, says) =
     with_part (ReplayHead h.job (setting_in h)) bytes front part more parts says.parts
 
-begins_solve : (number : ℕ) (bytes front part : List ℕ) → bytes ≡ front ++ part → (more : List ℕ)
-    × SaysSolve number front more
+begins_solve : (number : ℕ) (bytes front part : List ℕ) → bytes ≡ front ++ part
+    → (more : List ℕ) × SaysSolve number front more
     → (rest : List ℕ) × (bytes ≡ solve_head number ++ rest)
 begins_solve number bytes front part parts (more, says) =
     with_part (SolveHead number) bytes front part more parts says.parts

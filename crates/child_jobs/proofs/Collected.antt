@@ -31,14 +31,14 @@ taken_on r bytes rest taken count given frame all is lends adds has =
     (subst (λ (l : List Item). HasTaken r (take taken bytes ++ take count rest) l) items has)
 
 -- no other answer would do
-pub no_other : (bytes : List ℕ) (result : Result JobEnum JobFault) (other : Result Job JobFault) → (result ≡ Err Memory)
-    ⊎ ReadsJob bytes (read_as result) → ReadsJob bytes other
+pub no_other : (bytes : List ℕ) (result : Result JobEnum JobFault) (other : Result Job JobFault)
+    → (result ≡ Err Memory) ⊎ ReadsJob bytes (read_as result) → ReadsJob bytes other
     → (result ≡ Err Memory) ⊎ (read_as result ≡ other)
 no_other bytes result other (inl memory) also = inl memory
 no_other bytes result other (inr reads) also = inr (one_read bytes (read_as result) other reads also)
 
-pub no_other_breach : (bytes : List ℕ) (fault : JobFault) (other : Result Job JobFault) → (fault ≡ Memory)
-    ⊎ BreaksJob bytes fault → ReadsJob bytes other
+pub no_other_breach : (bytes : List ℕ) (fault : JobFault) (other : Result Job JobFault)
+    → (fault ≡ Memory) ⊎ BreaksJob bytes fault → ReadsJob bytes other
     → (◌≡◌ {A = Result JobEnum JobFault} (Err fault) (Err Memory)) ⊎ (◌≡◌ {A = Result Job JobFault} (Err fault) other)
 no_other_breach bytes fault other (inl memory) also = inl (ap (λ (f : JobFault). Err f) memory)
 no_other_breach bytes fault other (inr breaks) also = inr (one_read bytes (Err fault) other breaks also)

@@ -1,6 +1,7 @@
 -- What a reader's end says of its bytes.
 use Rattle.std.proofs.Common.{◌≡◌, ◌≤◌, ℕ, Bool, true, false, if◌then◌else◌, List, [], ◌∷◌, ◌++◌, length, take, Option, None, Some, Result, Ok, Err, IfOk, IfErr, ◌⊎◌, refl, sym, ◌∙◌, ap, subst, arith, append-nil, inl, inr}
 use Rattle.bound_certificate.specs.Limits.{IsWithin}
+use Rattle.bound_certificate.specs.Problem.{Problem}
 use Rattle.byte_format.specs.Format.{At, reached}
 use Rattle.job_format.specs.Given.{items_in}
 use Rattle.job_format.specs.Job.{Replay as ReplayIt, ReplayJob, Solve as SolveIt, SolveJob, SpellsReplay, SpellsSolve}
@@ -17,7 +18,7 @@ use Rattle.job_format.specs.declared.place.Tally.{Tally}
 use Rattle.child_jobs.specs.Ends.{Ends}
 use Rattle.child_jobs.specs.Heads.{Head, ReplayHead, SolveHead, head_at}
 use Rattle.child_jobs.specs.Reader.{HasTaken, known_head, needs_held}
-use Rattle.child_jobs.specs.Rooms.{HasRoom}
+use Rattle.child_jobs.specs.Rooms.{most_items}
 use Rattle.child_jobs.specs.declared.end.JobEnd.{JobEnd}
 use Rattle.child_jobs.specs.declared.end.JobEnd.TheVariants as ends
 use Rattle.child_jobs.specs.declared.reader.JobReader.{JobReader}
@@ -61,12 +62,10 @@ pub ends_replay : (r : JobReader) (bytes : List ℕ) (given : List Item) (h : He
     → r.place ≡ places.ReplayEnd h tally → HasTaken r bytes given
     → Ends bytes (known_head r) given (Ok ends.Replay)
 ends_replay r bytes given h tally is taken =
-    let room : HasRoom (places.ReplayEnd h tally) r.ended (length r.frame.items) (length r.sites.items)
-    (length r.needs.items) =
-    subst (λ (p : Place). HasRoom p r.ended (length r.frame.items) (length r.sites.items) (length r.needs.items)) is
-    r.room in
+    let few : length r.frame.items ≤ 0 =
+    subst (λ (p : Place). length r.frame.items ≤ most_items p r.ended) is r.room.few_items in
     let all : items_in bytes ≡ given =
-    taken.gives ∙ ap (λ (l : List Item). given ++ l) (none_kept r.ended r.frame.items room.few_items)
+    taken.gives ∙ ap (λ (l : List Item). given ++ l) (none_kept r.ended r.frame.items few)
     ∙ append-nil given in
     let job : ReplayJob = record { number = h.job; setting = setting_in h; items = given } in
     let spells : SpellsReplay job bytes =
@@ -76,35 +75,34 @@ ends_replay r bytes given h tally is taken =
     subst (λ (p : Place). Ends bytes (head_at p) given (Ok ends.Replay)) (sym is) spells
 
 -- behind a solve job
+abbrev pub held_problem : JobReader → Problem
+held_problem r = record { sites = r.sites.items; needs = needs_held r }
+
 spells_solve : (r : JobReader) (bytes : List ℕ) (given : List Item) (n : SolveNumbers) → r.place ≡ places.SolveEnd n
     → HasTaken r bytes given
-    → SpellsSolve (record
-    { number = n.job; nodes = n.nodes; problem = record { sites = r.sites.items; needs = needs_held r } }) bytes
+    → SpellsSolve (record { number = n.job; nodes = n.nodes; problem = held_problem r }) bytes
 spells_solve r bytes given n is taken =
-    let job : SolveJob = record
-    { number = n.job; nodes = n.nodes; problem = record { sites = r.sites.items; needs = needs_held r } } in
-    whole_back (places.SolveEnd n) bytes (SolveIt job) taken.fit
+    let job : Problem → SolveJob = λ problem. record { number = n.job; nodes = n.nodes; problem = problem } in
+    whole_back (places.SolveEnd n) bytes (SolveIt (job (held_problem r))) taken.fit
     (at_end r bytes given (places.SolveEnd n) is refl taken)
-    (λ i. SolveIt (record
-    { number = n.job; nodes = n.nodes; problem = record { sites = sym taken.sites i; needs = sym taken.needs i } }))
+    (λ i. SolveIt (job (record { sites = sym taken.sites i; needs = sym taken.needs i })))
 
 ends_solve : (r : JobReader) (bytes : List ℕ) (given : List Item) (n : SolveNumbers) → r.place ≡ places.SolveEnd n
-    → HasTaken r bytes given
-    → Ends bytes (known_head r) given (Ok (ends.Solve n.nodes (record { sites = r.sites.items; needs = needs_held r })))
+    → HasTaken r bytes given → Ends bytes (known_head r) given (Ok (ends.Solve n.nodes (held_problem r)))
 ends_solve r bytes given n is taken =
-    subst (λ (p : Place). Ends bytes (head_at p) given
-    (Ok (ends.Solve n.nodes (record { sites = r.sites.items; needs = needs_held r })))) (sym is)
+    subst (λ (p : Place). Ends bytes (head_at p) given (Ok (ends.Solve n.nodes (held_problem r)))) (sym is)
     (spells_solve r bytes given n is taken)
 
 -- what is made of its sites and needs
 pub ends_made : (r : JobReader) (bytes : List ℕ) (given : List Item) (n : SolveNumbers)
     (result : Result JobEnd JobFault) → r.place ≡ places.SolveEnd n → HasTaken r bytes given
-    → IfOk result (λ end. end ≡ ends.Solve n.nodes (record { sites = r.sites.items; needs = needs_held r }))
+    → IfOk result (λ end. end ≡ ends.Solve n.nodes (held_problem r))
     → IfErr result (λ fault. (fault ≡ faults.Memory) ⊎ (IsWithin r.sites.items (needs_held r) → ⊥))
     → (result ≡ Err faults.Memory) ⊎ Ends bytes (known_head r) given result
 ends_made r bytes given n (Ok end) is taken value fault =
-    inr (subst (λ (e : JobEnd). Ends bytes (known_head r) given (Ok e)) (sym value)
-    (ends_solve r bytes given n is taken))
+    let here : Ends bytes (known_head r) given (Ok (ends.Solve n.nodes (held_problem r))) =
+    ends_solve r bytes given n is taken in
+    inr (subst (λ (e : JobEnd). Ends bytes (known_head r) given (Ok e)) (sym value) here)
 ends_made r bytes given n (Err fault) is taken value why = elim why [
   | inl memory ↦ inl (ap (λ (f : JobFault). Err f) memory)
   | inr outside ↦ absurd (outside ((spells_solve r bytes given n is taken).within.within))

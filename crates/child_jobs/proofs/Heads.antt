@@ -3,7 +3,7 @@ use Rattle.std.proofs.Common.{◌≡◌, ℕ, ◌+◌, ◌-◌, ◌==◌, nat_le
 use Rattle.byteorder.specs.Endian.{little_number}
 use Rattle.byte_format.specs.Keys.{key_words}
 use Rattle.flow_keys.specs.Key.{is_valid}
-use Rattle.job_format.specs.Places.{behind_item, behind_need, if_right, judge_place, judge_solve, may_follow, with_frame, with_weight}
+use Rattle.job_format.specs.Places.{behind_hop, behind_item, behind_need, behind_site, if_right, judge_place, judge_solve, may_follow, with_frame, with_weight}
 use Rattle.job_format.specs.Job.{weight_limit}
 use Rattle.job_format.specs.declared.fault.JobFault.{JobFault}
 use Rattle.job_format.specs.declared.fault.JobFault.TheVariants as faults
@@ -27,45 +27,40 @@ module _ (head : Head) where
   count_knows true test h tally old count here = here
   count_knows false test h tally old count here = right_if Knows test faults.Shape (Key h tally count) (λ yes. here)
 
-  weight_knows : (is_last : Bool) (h : HeadNumbers) (old tally : Tally) (left : ℕ) → Knows (Count h old)
-      → Knows (if is_last then Count h tally else Key h tally (left - 1))
-  unfolding Knows
-  weight_knows true h old tally left here = here
-  weight_knows false h old tally left here = here
+  knows_if : (test : Bool) (p q : Place) → Knows p → Knows q → Knows (if test then p else q)
+  knows_if true p q one other = one
+  knows_if false p q one other = other
 
-  site_knows : (is_last : Bool) (n : SolveNumbers) (step : SolveStep) → Knows (Solve step n)
-      → Knows (if is_last then Solve solves.Needs (record n { sites_left = 0 }) else Solve solves.Site
-      (record n { sites_left = n.sites_left - 1 }))
+  need_knows : (n : SolveNumbers) → Knows (SolveEnd n) → Knows (behind_need n)
   unfolding Knows
-  site_knows true n step here = here
-  site_knows false n step here = here
+  need_knows n here =
+      knows_if (nat_le n.needs_left 1) (SolveEnd (record n { needs_left = 0 }))
+      (Solve solves.Load (record n { needs_left = n.needs_left - 1 })) here here
 
-  need_knows : (is_last : Bool) (n : SolveNumbers) (step : SolveStep) → Knows (Solve step n)
-      → Knows (if is_last then SolveEnd (record n { needs_left = 0 }) else Solve solves.Load
-      (record n { needs_left = n.needs_left - 1 }))
+  site_knows : (n : SolveNumbers) → Knows (SolveEnd n) → Knows (behind_site n)
   unfolding Knows
-  need_knows true n step here = here
-  need_knows false n step here = here
+  site_knows n here =
+      knows_if (nat_le n.sites_left 1) (Solve solves.Needs (record n { sites_left = 0 }))
+      (Solve solves.Site (record n { sites_left = n.sites_left - 1 })) here here
 
-  hop_knows : (is_last : Bool) (n : SolveNumbers) (site : ℕ) → Knows (Solve solves.Hop n)
-      → Knows (if is_last then behind_need (record n { load = 0; via = []; hops_left = 0 }) else Solve solves.Hop
-      (record n { via = n.via ++ site ∷ []; hops_left = n.hops_left - 1 }))
+  hop_knows : (n : SolveNumbers) (site : ℕ) → Knows (SolveEnd n) → Knows (behind_hop n site)
   unfolding Knows
-  hop_knows true n site here =
-      need_knows (nat_le n.needs_left 1) (record n { load = 0; via = []; hops_left = 0 }) solves.Hop here
-  hop_knows false n site here = here
+  hop_knows n site here =
+      let last : SolveNumbers = record n { load = 0; via = []; hops_left = 0 } in
+      knows_if (nat_le n.hops_left 1) (behind_need last)
+      (Solve solves.Hop (record n { via = n.via ++ site ∷ []; hops_left = n.hops_left - 1 })) (need_knows last here) here
 
   step_knows : (step : SolveStep) (n : SolveNumbers) (b : List ℕ) → Knows (Solve step n)
       → IfOk (judge_solve step n b) Knows
   unfolding Knows
   step_knows solves.Nodes n b here = right_if Knows _ _ _ (λ yes. here)
   step_knows solves.Sites n b here = right_if Knows _ _ _ (λ yes. here)
-  step_knows solves.Site n b here = site_knows (nat_le n.sites_left 1) n solves.Site here
+  step_knows solves.Site n b here = site_knows n here
   step_knows solves.Needs n b here = right_if Knows _ _ _ (λ yes. here)
   step_knows solves.Load n b here = right_if Knows _ _ _ (λ yes. here)
   step_knows solves.Hops n b here = right_if Knows _ _ _ (λ yes. here)
   step_knows solves.Hop n b here =
-      right_if Knows _ _ _ (λ yes. hop_knows (nat_le n.hops_left 1) n (slice_index b 0) here)
+      right_if Knows _ _ _ (λ yes. hop_knows n (slice_index b 0) here)
 
   knows_on : (p : Place) (b : List ℕ) → Knows p → IfOk (judge_place p b) Knows
   unfolding Knows judge_place
@@ -78,7 +73,8 @@ module _ (head : Head) where
   knows_on (Weight h tally left key) b here =
       right_if Knows (nat_le (tally.weight + little_number 4 b) weight_limit) faults.Shape
       (behind_item h (with_weight tally (little_number 4 b)) left)
-      (λ yes. weight_knows (nat_le left 1) h tally (with_weight tally (little_number 4 b)) left here)
+      (λ yes. knows_if (nat_le left 1) (Count h (with_weight tally (little_number 4 b)))
+      (Key h (with_weight tally (little_number 4 b)) (left - 1)) here here)
   knows_on (ReplayEnd h tally) b here = tt
   knows_on (Solve step n) b here = step_knows step n b here
   knows_on (SolveEnd n) b here = tt

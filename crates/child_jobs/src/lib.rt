@@ -1,12 +1,13 @@
 //! Jobs of a child, written and read.
 //!
 //! - `write`: `write_job`, and `write_head` and `write_frame` for a replay job in pieces
-//! - `reader`: `JobReader`, of a job whose bytes come in pieces; `head`: `JobHead`, what it knows once the head is there;
-//!   `end`: `JobEnd`, what a whole job was
+//! - `reader`: `JobReader`, of a job whose bytes come in pieces
+//! - `head`: `JobHead`, what it knows once the head is there; `end`: `JobEnd`, what a whole job was
 //! - `read`: `read_job`, of a job in one piece
 //!
 //! A reader takes memory when it is made and at the end, and none between. It answers the same for every cutting into
-//! pieces: `specs/Reader.antt` says which bytes it has taken, and which items it has given out.
+//! pieces: `specs/Reader.antt` says which bytes it has taken, and which items it has given out; `specs/Rooms.antt` why
+//! what it holds has room.
 #![tactic(auto)]
 
 mod end;

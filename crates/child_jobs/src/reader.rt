@@ -27,12 +27,16 @@ use std::alloc::Global;
 /// A reader of one job, whose bytes come in pieces.
 #[derive(Drop)]
 pub struct JobReader {
+    /// What stands next, and the bytes of its field that are there: the first so many of those held.
     place: Place,
     held: [u8; 44],
     filled: usize,
+    /// The first breach, once it was met.
     stop: Option<JobFault>,
+    /// The items of a frame, and whether they are all of it and are lent.
     frame: Vec<Item>,
     ended: bool,
+    /// The sites and needs so far of a solve job.
     sites: Vec<Site>,
     needs: Vec<HeldNeed>,
     ghost room: { HasRoom place ended (length frame.items) (length sites.items) (length needs.items) },
@@ -181,7 +185,8 @@ impl JobReader {
         ensures needs { self.new.needs.items ≡ self.old.needs.items ++ option_to_list need }
     {
         let _ = place_size(&place);
-        self.ended = ends_frame(&self.place, &place);
+        let ended = ends_frame(&self.place, &place);
+        self.ended = ended;
         keep(&mut self.frame, item);
         keep(&mut self.sites, site);
         keep(&mut self.needs, need);

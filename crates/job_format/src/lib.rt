@@ -8,7 +8,8 @@
 //! - `laws`: that each job has one spelling, none a proper prefix of another, and that all bytes are read as one thing
 //!
 //! `specs/Job.antt` says a job and its spelling, without a reader; `specs/Places.antt` the fields in their order with
-//! the test of each; `specs/Given.antt` what they give; `specs/Read.antt` what bytes are read as.
+//! the test of each; `specs/Given.antt` what they give; `specs/Read.antt` what bytes are read as; `specs/Rooms.antt` that
+//! a via never gets more than eight numbers.
 #![tactic(auto)]
 
 mod fault;

@@ -32,7 +32,7 @@ invariant_of-self c =
     room_with r c.args.place c.args.item c.args.site c.args.need c.requires.within c.requires.field in
     record {
       room =
-          room_as c.ends_frame-self.ensures
+          room_as c.ends_frame-ended.ensures
           (ap length c.keep.ensures.items ∙ length-append r.frame.items (option_to_list c.args.item))
           (ap length c.keep-2.ensures.items ∙ length-append r.sites.items (option_to_list c.args.site))
           (ap length c.keep-3.ensures.items ∙ length-append r.needs.items (option_to_list c.args.need)) room;
