@@ -13,7 +13,7 @@ pub fn nonzero(a: &[i64]) -> usize
     let mut count = 0;
     let mut at = 0;
     while a.len() - at >= 8 {
-        count += nonzero_bits(eight_from(a, at)).count_ones() as usize;
+        count += marks_from(a, at).count_ones() as usize;
         at += 8;
     }
     count + nonzero_one_by_one(&a[at..])
@@ -30,7 +30,7 @@ pub fn next_nonzero(a: &[i64], from: usize) -> Option<usize>
 {
     let mut at = from;
     while a.len() - at >= 8 {
-        let bits = nonzero_bits(eight_from(a, at));
+        let bits = marks_from(a, at);
         if bits != 0 {
             return Some(at + bits.trailing_zeros() as usize);
         }
@@ -39,7 +39,16 @@ pub fn next_nonzero(a: &[i64], from: usize) -> Option<usize>
     next_one_by_one(a, at)
 }
 
-// A bit for each of eight numbers, the lowest of the first: 1 where the number isn't 0.
+// A bit for each of eight numbers from a place on, the lowest for the first: 1 where the number isn't 0.
+#[inline]
+fn marks_from(a: &[i64], at: usize) -> u64
+    requires { at + 8 ≤ length a.now }
+    ensures { result ≡ mask_l (map is_nonzero (chunk at 8 a.now)) }
+{
+    nonzero_bits(eight_from(a, at))
+}
+
+// A bit for each of eight numbers, the lowest for the first: 1 where the number isn't 0.
 #[inline]
 fn nonzero_bits(lanes: [i64; 8]) -> u64
     ensures { result ≡ mask_l (map is_nonzero lanes) }
