@@ -8,7 +8,8 @@ use Rattle.lane_kernels.proofs.scans.nonzero.Goals as goal
 
 pub overflow_add-count : goal.overflow_add-count
 overflow_add-count c =
-    let more = counted_more is_nonzero c.args.a.now c.loop-at.at c.marks_from.result (omega arith) c.marks_from.ensures in
+    let more = counted_more is_nonzero c.args.a.now c.loop-at.at c.marks_from.result (omega arith)
+    c.marks_from.ensures in
     let few : c.loop-at.count + count_ones c.marks_from.result ≤ length c.args.a.now =
     omega (
       arith,
@@ -21,7 +22,8 @@ overflow_add-count c =
 
 pub loop-at-preserved : goal.loop-at-preserved
 loop-at-preserved c =
-    let more = counted_more is_nonzero c.args.a.now c.loop-at.at c.marks_from.result (omega arith) c.marks_from.ensures in
+    let more = counted_more is_nonzero c.args.a.now c.loop-at.at c.marks_from.result (omega arith)
+    c.marks_from.ensures in
     (omega arith, omega (arith, more, c.loop-at.invariant.1))
 
 pub overflow_add-result : goal.overflow_add-result
