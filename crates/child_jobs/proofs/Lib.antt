@@ -2,6 +2,8 @@ mod Begins
 mod Collected
 mod Ended
 mod Heads
+mod Light
 mod Moves
 mod Rooms
 mod Taken
+pub mod Written

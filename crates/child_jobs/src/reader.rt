@@ -4,7 +4,7 @@ ghost use Rattle.std.specs.Option.{option_map, option_to_list};
 ghost use Rattle.byte_format.specs.Format.{Broken, reached};
 ghost use Rattle.job_format.specs.Given.{item_gives, need_gives, site_gives};
 ghost use Rattle.job_format.specs.Held.{need_of};
-ghost use Rattle.job_format.specs.Job.{frame_limit};
+ghost use Rattle.job_format.specs.Job.{frame_limit, item_limit, weight_limit, weight_of};
 ghost use Rattle.job_format.specs.Places.{job_format, job_start, judge_place, place_size};
 ghost use Rattle.job_format.specs.Read.{BreaksJob};
 ghost use Rattle.job_format.specs.Rooms.{has_room};
@@ -54,6 +54,7 @@ impl JobReader {
     /// A reader that has taken no byte. It takes the memory that reading wants.
     pub fn new(alloc: Global) -> Result<JobReader, Memory>
         ensures start { IfOk result (λ reader. HasTaken reader [] []) }
+        ensures headless { IfOk result (λ reader. known_head reader ≡ None) }
     {
         let Ok(frame) = Vec::with_capacity(alloc, 4096) else {
             return Err(Memory);
@@ -198,6 +199,12 @@ impl JobReader {
     pub fn frame(&self) -> &[Item]
         ensures value { result.now ≡ lent self.now }
         ensures few { length result.now ≤ frame_limit }
+
+        // All items that were given out are within the limits of a job, and there are none before the head is there.
+        ensures light { (bytes : List ℕ) (given : List AnItem) → HasTaken self.now bytes given
+            → (weight_of given ≤ weight_limit) × (length given ≤ item_limit) }
+        ensures before { (bytes : List ℕ) (given : List AnItem) → HasTaken self.now bytes given
+            → known_head self.now ≡ None → given ≡ [] }
     {
         if self.ended { &self.frame } else { &[] }
     }
