@@ -6,7 +6,12 @@
 //! Both take memory.
 #![tactic(auto)]
 
+mod cursor;
+mod front;
+mod head;
+mod head_field;
 mod read;
+mod replay_job;
 mod write;
 
 pub use read::read_reply;
