@@ -1,2 +1,7 @@
+mod CounterFields
+mod Ends
 mod Heads
+mod HeapFields
+mod Limits
 mod Moves
+mod Rows

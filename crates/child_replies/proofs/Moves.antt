@@ -3,7 +3,7 @@ use Rattle.std.proofs.Common.{◌≡◌, ◌<◌, ℕ, Bool, true, false, List, 
 use Rattle.byte_format.proofs.Formats.{TakesBytes, reached-append, reached-broken, reached-field, reached-on, reached-part}
 use Rattle.byte_format.specs.Format.{Format, Reached, At, Broken, judged, reached}
 use Rattle.child_replies.specs.Steps.{MayStop, Moves, Stops, stop_of}
-use Rattle.reply_format.specs.Places.{Place, judge_place, place_size, replay_format}
+use Rattle.reply_format.specs.Places.{Place, if_right, judge_place, place_size, replay_format}
 use Rattle.reply_format.specs.Places as places
 use Rattle.reply_format.specs.Read.{is_end}
 use Rattle.reply_format.specs.Reply.{ReplayHead}
@@ -76,3 +76,14 @@ module _ (e : ReplayHead) where
 
   pub may_stop_on : (s t : Place) (bytes after : List ℕ) (fault : ReplyFault) → Moves e s bytes t after → MayStop e t after fault → MayStop e s bytes fault
   may_stop_on s t bytes after fault on stop = elim stop [ inl full ↦ inl full | inr there ↦ inr (stops_on s t bytes after fault on there) ]
+
+  -- the same where the field has one test
+  pub tested_on : (s t : Place) (field after bytes : List ℕ) (test : Bool) (fault : ReplyFault) → bytes ≡ field ++ after → length field ≡ place_size e s
+      → judge_place e s field ≡ if_right test fault t → test ≡ true → Moves e s bytes t after
+  tested_on s t field after bytes test fault parts size judge is =
+      moves_on s t field after bytes parts size (judge ∙ ap (λ (b : Bool). if_right b fault t) is)
+
+  pub tested_stop : (s t : Place) (field after bytes : List ℕ) (test : Bool) (fault : ReplyFault) → bytes ≡ field ++ after → length field ≡ place_size e s
+      → judge_place e s field ≡ if_right test fault t → test ≡ false → Stops e s bytes fault
+  tested_stop s t field after bytes test fault parts size judge is =
+      stops_wrong s field after bytes fault parts size (judge ∙ ap (λ (b : Bool). if_right b fault t) is)

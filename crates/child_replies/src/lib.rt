@@ -6,11 +6,15 @@
 //! Both take memory.
 #![tactic(auto)]
 
+mod counter;
+mod counters;
 mod cursor;
 mod front;
 mod head;
 mod head_field;
+mod heaps;
 mod read;
+mod read_replay;
 mod replay_job;
 mod write;
 
