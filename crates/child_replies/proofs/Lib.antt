@@ -5,3 +5,6 @@ mod HeapFields
 mod Limits
 mod Moves
 mod Rows
+mod SolveFields
+mod Stubs
+mod Tops

@@ -1,6 +1,7 @@
 -- How reading goes on: from a place and the bytes there to a place and the bytes that are left, or to where it stops.
 use Rattle.std.specs.Prelude.{◌≡◌, ◌⊎◌, ℕ, Bool, List, [], Option, Some, None, if◌then◌else◌}
 use Rattle.byte_format.specs.Format.{Reached, At, Broken, reached}
+use Rattle.reply_format.specs.Outcomes.{Place as SolvePlace, is_tree, solve_format}
 use Rattle.reply_format.specs.Places.{Place, replay_format}
 use Rattle.reply_format.specs.Read.{is_end}
 use Rattle.reply_format.specs.Reply.{ReplayHead}
@@ -24,3 +25,14 @@ module _ (head : ReplayHead) where
   -- the same, or memory ran out
   abbrev pub MayStop : Place → List ℕ → ReplyFault → Type 0
   MayStop from bytes fault = (fault ≡ Memory) ⊎ Stops from bytes fault
+
+-- the same of the fields of a solve reply up to its tree
+module _ (number : ℕ) where
+  abbrev pub SolveMoves : SolvePlace → List ℕ → SolvePlace → List ℕ → Type 0
+  SolveMoves from bytes to rest = reached (solve_format number) (At from []) bytes ≡ reached (solve_format number) (At to []) rest
+
+  abbrev pub SolveStops : SolvePlace → List ℕ → ReplyFault → Type 0
+  SolveStops from bytes fault = stop_of is_tree Short (reached (solve_format number) (At from []) bytes) ≡ Some fault
+
+  abbrev pub SolveMayStop : SolvePlace → List ℕ → ReplyFault → Type 0
+  SolveMayStop from bytes fault = (fault ≡ Memory) ⊎ SolveStops from bytes fault

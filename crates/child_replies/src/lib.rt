@@ -9,14 +9,23 @@
 mod counter;
 mod counters;
 mod cursor;
+mod found;
 mod front;
 mod head;
 mod head_field;
 mod heaps;
 mod read;
 mod read_replay;
+mod read_solve;
 mod replay_job;
+mod scan;
+mod solve_front;
 mod write;
+mod write_head;
+mod write_heap;
+mod write_replay;
+mod write_row;
+mod write_solve;
 
 pub use read::read_reply;
 pub use write::write_reply;

@@ -1,39 +1,19 @@
-use Rattle.std.proofs.Common.{◌≡◌, ◌∙◌, ◌<◌, [], List, ℕ, ℤ, length, sym, ap, subst, inr, eqb-true}
-use Rattle.byte_format.specs.Format.{At, reached}
+use Rattle.std.proofs.Common.{◌≡◌, ◌⊎◌, Result, Err, ap, inl, inr, refl}
 use Rattle.child_replies.specs.Heads.{head_of_job}
-use Rattle.child_replies.specs.Steps.{Moves}
-use Rattle.child_replies.proofs.Ends.{end_extra, end_whole, some_left}
-use Rattle.child_replies.proofs.Moves.{may_stop_on, stops_on}
-use Rattle.reply_format.specs.Places.{Body, End, HeapLength}
-use Rattle.reply_format.specs.Places as places
-use Rattle.reply_format.specs.declared.fault.ReplyFault.TheVariants.{Extra}
-use Rattle.reply_format.specs.declared.heap.Heap.{Heap}
+use Rattle.child_replies.proofs.Stubs.{replay_back}
+use Rattle.child_replies.proofs.Tops.{replay_stop}
+use Rattle.reply_format.specs.declared.fault.ReplyFault.{ReplyFault}
+use Rattle.reply_format.specs.declared.reply.Reply.{Reply}
 use Rattle.child_replies.proofs.read_replay.read_replay.Goals as goal
 
-pub returns-in-Err-read_heaps-clause-stop : goal.returns-in-Err-read_heaps-clause-stop
-returns-in-Err-read_heaps-clause-stop c =
-    let e = head_of_job c.args.job.now in
-    let counters : List ℤ = c.in-Ok-read_counters.read.0.items in
-    may_stop_on e places.Magic (HeapLength counters []) c.args.bytes.now c.in-Ok-read_counters.read.1.now c.in-Err-read_heaps.fault
-    (c.in-Ok.ensures.on ∙ c.in-Ok-read_counters.ensures.on) (c.in-Err-read_heaps.ensures.stop counters)
+pub returns-in-Ok : goal.returns-in-Ok
+returns-in-Ok c =
+    inr (refl, replay_back (head_of_job c.args.job) c.args.bytes.now (record { counters = c.in-Ok.body.counters; heaps = c.in-Ok.body.heaps })
+    c.args.job.params.within c.check_bytes.ensures c.in-Ok.ensures.on)
 
-pub returns-then-not-is_empty-clause-stop : goal.returns-then-not-is_empty-clause-stop
-returns-then-not-is_empty-clause-stop c =
-    let e = head_of_job c.args.job.now in
-    let body : Body = record { counters = c.in-Ok-read_counters.read.0.items; heaps = c.in-Ok-read_heaps.read.0 } in
-    let some : 0 < length c.in-Ok-read_heaps.read.1.now =
-    some_left c.in-Ok-read_heaps.read.1.now (sym c.is_empty.ensures ∙ c.if-not-is_empty.true) in
-    inr (stops_on e places.Magic (End body) c.args.bytes.now c.in-Ok-read_heaps.read.1.now Extra
-    (c.in-Ok.ensures.on ∙ c.in-Ok-read_counters.ensures.on ∙ c.in-Ok-read_heaps.ensures.on c.in-Ok-read_counters.read.0.items)
-    (end_extra e body c.in-Ok-read_heaps.read.1.now some))
-
-pub returns-clause-on : goal.returns-clause-on
-returns-clause-on c =
-    let e = head_of_job c.args.job.now in
-    let counters : List ℤ = c.in-Ok-read_counters.read.0.items in
-    let body : Body = record { counters = counters; heaps = c.in-Ok-read_heaps.read.0 } in
-    let none : length c.in-Ok-read_heaps.read.1.now ≡ 0 =
-    eqb-true (length c.in-Ok-read_heaps.read.1.now) 0 (sym c.is_empty.ensures ∙ c.if-not-is_empty.false) in
-    c.in-Ok.ensures.on ∙ c.in-Ok-read_counters.ensures.on ∙ c.in-Ok-read_heaps.ensures.on counters
-    ∙ end_whole e body c.in-Ok-read_heaps.read.1.now none
-    ∙ ap (λ (cs : List ℤ). At (End (record { counters = cs; heaps = c.in-Ok-read_heaps.read.0 })) []) (sym c.from_vec.ensures)
+pub returns-in-Err : goal.returns-in-Err
+returns-in-Err c =
+    elim c.in-Err.ensures.stop [
+      | inl full ↦ inl (ap (λ (fault : ReplyFault). let read : Result Reply ReplyFault = Err fault in read) full)
+      | inr there ↦ inr (replay_stop (head_of_job c.args.job) c.args.bytes.now c.in-Err.fault there)
+    ]
