@@ -1,5 +1,6 @@
 mod CounterFields
 mod Ends
+mod Entries
 mod Heads
 mod HeapFields
 mod Limits

@@ -56,8 +56,8 @@ fn read_into<'a>(
     read_rows(job, counters, rows, bytes)
 }
 
-// How many rows all levels have together.
-fn row_count(params: &Params) -> usize
+/// How many rows all levels have together.
+pub(crate) fn row_count(params: &Params) -> usize
     ensures value { result ≡ row_count (setting_of params.now) }
     ensures some { 0 < result }
     ensures few { result ≤ 119 }

@@ -1,5 +1,5 @@
 //! The counters of a replay reply as bytes, in version 2.
-ghost use Rattle.std.specs.Prelude.{◌≡◌, ◌≤◌, ◌<◌, ◌+◌, ◌*◌, ◌++◌, length, OnOk};
+ghost use Rattle.std.specs.Prelude.{◌≡◌, ◌≤◌, ◌<◌, ◌+◌, ◌*◌, ◌++◌, length, pos, slice_index_or, OnOk};
 ghost use Rattle.byteorder.specs.Endian.{little_bytes};
 ghost use Rattle.reply_format.specs.Reply.{counter_bytes, entries_bytes, nonzero_count, row_at, row_bytes, sparse_bytes};
 
@@ -60,16 +60,26 @@ fn put_entries(row: &[i64], out: &mut Vec<u8>) -> Result<(), Memory>
 {
     let mut from = 0;
     while let Some(place) = next_nonzero(row, from) {
-        put_entry(place as u16, row[place], out)?;
+        put_entry(row, place, out)?;
         from = place + 1;
     }
     Ok(())
 }
 
-fn put_entry(bucket: u16, counter: i64, out: &mut Vec<u8>) -> Result<(), Memory>
-    ensures { OnOk result (out.new.items ≡ out.old.items ++ (little_bytes 2 bucket ++ counter_bytes counter)) }
+// Appends a bucket of a row and its counter.
+fn put_entry(row: &[i64], bucket: usize, out: &mut Vec<u8>) -> Result<(), Memory>
+    requires below { bucket < length row.now }
+    requires few { length row.now ≤ 2048 }
+    ensures { OnOk result (out.new.items ≡ out.old.items
+        ++ (little_bytes 2 bucket ++ counter_bytes (slice_index_or row.now bucket (pos 0)))) }
 {
-    put_number(bucket, out)?;
+    put_number(bucket as u16, out)?;
+    put_counter(row[bucket], out)
+}
+
+fn put_counter(counter: i64, out: &mut Vec<u8>) -> Result<(), Memory>
+    ensures { OnOk result (out.new.items ≡ out.old.items ++ counter_bytes counter) }
+{
     match out.extend_from_slice(&counter.cast_unsigned().to_le_bytes()) {
         Ok(()) => Ok(()),
         Err(_) => Err(Memory),

@@ -54,7 +54,8 @@ fn put_tree(alloc: Global, tree: &Tree, out: &mut Vec<u8>) -> Result<(), Memory>
     put_bytes(bytes.as_slice(), out)
 }
 
-fn put_bytes(bytes: &[u8], out: &mut Vec<u8>) -> Result<(), Memory>
+/// Appends bytes.
+pub(crate) fn put_bytes(bytes: &[u8], out: &mut Vec<u8>) -> Result<(), Memory>
     ensures { OnOk result (out.new.items ≡ out.old.items ++ bytes.now) }
 {
     match out.extend_from_slice(bytes) {
