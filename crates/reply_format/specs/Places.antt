@@ -123,7 +123,8 @@ module _ (e : ReplayHead) where
   judge_place (Weight v) b =
       if_right (little_number 8 b == e.weight) faults.Totals (if v == 1 then Counter [] else RowCount [])
   judge_place (Counter cs) b =
-      if_right (nat_le (magnitude (little_number 8 b)) e.weight) faults.CounterRange (behind_counter (cs ++ signed b ∷ []))
+      if_right (nat_le (magnitude (little_number 8 b)) e.weight) faults.CounterRange
+      (behind_counter (cs ++ signed b ∷ []))
   judge_place (RowCount cs) b =
       if_right (nat_le (little_number 2 b) e.setting.width) faults.CounterPlace (behind_value cs 0 (little_number 2 b))
   judge_place (Bucket cs from left) b =
@@ -134,7 +135,8 @@ module _ (e : ReplayHead) where
       (behind_value (cs ++ signed b ∷ []) from left)
   judge_place (HeapLength cs heaps) b =
       if_right (is_heap_length (little_number 2 b)) faults.HeapLength
-      (behind_key cs heaps (record { dropped = nat_le 32768 (little_number 2 b); keys = [] }) (little_number 2 b % 32768))
+      (behind_key cs heaps (record { dropped = nat_le 32768 (little_number 2 b); keys = [] })
+      (little_number 2 b % 32768))
   judge_place (HeapKey cs heaps heap left) b =
       if_right (is_valid (key_words b) && is_above heap.keys (key_words b)) faults.HeapOrder
       (behind_key cs heaps (record { dropped = heap.dropped; keys = heap.keys ++ key_words b ∷ [] }) (left - 1))

@@ -1,4 +1,5 @@
--- What a reply is, and how it is spelled in bytes, in version 1 and in version 2. Numbers stand with the low byte first.
+-- What a reply is, and how it is spelled in bytes, in version 1 and in version 2. Numbers stand with the low byte
+-- first.
 use Rattle.std.specs.Prelude.{◌≡◌, ◌≤◌, ◌<◌, ◌^◌, ◌⊎◌, ℕ, count_by, ◌+◌, ◌*◌, ◌==◌, true, not, List, [], ◌∷◌, ◌++◌, length, take, drop, ℤ, pos, All, IsTrue, unsigned_abs, FitsSigned, if◌then◌else◌}
 use Rattle.std.specs.List.{flat_map, range_with_len}
 use Rattle.std.specs.List.Sorted.{IsStrictlySortedBy}
@@ -54,7 +55,11 @@ head_of number setting items weight = record { number = number; setting = settin
 -- the reply, and the expectation, that a value of the code is
 abbrev pub reply_of : ReplyEnum → Reply
 reply_of (variants.Replay job params items weight body) =
-    Replay (record { head = head_of job (setting_of params) items weight; counters = body.counters; heaps = body.heaps })
+    Replay (record {
+      head = head_of job (setting_of params) items weight;
+      counters = body.counters;
+      heaps = body.heaps;
+    })
 reply_of (variants.Solve job outcome) = Solve (record { number = job; outcome = outcome })
 
 abbrev pub expect_of : ExpectEnum → Expect
@@ -176,7 +181,8 @@ sparse_bytes rows width counters = flat_map (λ row. row_bytes (row_at width cou
 
 -- a heap: its number of keys, with 32768 more where it dropped one, and the keys
 abbrev pub heap_bytes : Heap → List ℕ
-heap_bytes heap = little_bytes 2 (length heap.keys + (if heap.dropped then 32768 else 0)) ++ flat_map key_bytes heap.keys
+heap_bytes heap =
+    little_bytes 2 (length heap.keys + (if heap.dropped then 32768 else 0)) ++ flat_map key_bytes heap.keys
 
 abbrev pub heaps_bytes : List Heap → List ℕ
 heaps_bytes heaps = flat_map heap_bytes heaps
