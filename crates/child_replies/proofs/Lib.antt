@@ -7,5 +7,4 @@ mod Limits
 mod Moves
 mod Rows
 mod SolveFields
-mod Stubs
 mod Tops

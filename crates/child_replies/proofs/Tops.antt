@@ -13,7 +13,8 @@ use Rattle.child_replies.specs.Solved.{HasFront, fault_of, found_of, outcome_of}
 use Rattle.child_replies.specs.Steps.{SolveStops, Stops, stop_of}
 use Rattle.child_replies.specs.declared.found.Found.{Found}
 use Rattle.child_replies.specs.declared.found.Found.TheVariants.{Placed, Infeasible, Spent}
-use Rattle.child_replies.proofs.Stubs.{IsFront, front_rest, replay_breach, replay_short, solve_breach, solve_short}
+use Rattle.reply_format.proofs.ReplayFaults.{replay_breach, replay_short}
+use Rattle.reply_format.proofs.SolveFaults.{solve_breach, solve_short}
 use Rattle.reply_format.specs.Outcomes.{Place as SolvePlace, is_tree, solve_format}
 use Rattle.reply_format.specs.Outcomes.{Found as AnyFound}
 use Rattle.reply_format.specs.Outcomes as solves

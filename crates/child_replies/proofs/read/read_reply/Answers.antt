@@ -1,5 +1,5 @@
 use Rattle.std.proofs.Common.{◌≡◌, ◌⊎◌, inl, inr, subst, sym}
-use Rattle.child_replies.proofs.Stubs.{one_read}
+use Rattle.reply_format.proofs.OneRead.{one_read}
 use Rattle.reply_format.specs.Read.{ReadsReply, read_as}
 use Rattle.reply_format.specs.Reply.{expect_of}
 use Rattle.reply_format.specs.declared.expect.Expect.{Expect}

@@ -1,6 +1,6 @@
 use Rattle.std.proofs.Common.{◌≡◌, ◌⊎◌, Result, Err, ap, inl, inr, refl}
 use Rattle.child_replies.specs.Heads.{head_of_job}
-use Rattle.child_replies.proofs.Stubs.{replay_back}
+use Rattle.reply_format.proofs.ReplayBack.{replay_back}
 use Rattle.child_replies.proofs.Tops.{replay_stop}
 use Rattle.reply_format.specs.declared.fault.ReplyFault.{ReplyFault}
 use Rattle.reply_format.specs.declared.reply.Reply.{Reply}
