@@ -1,5 +1,5 @@
 -- Behind a replay reply.
-use Rattle.std.proofs.Common.{◌≡◌, ◌<◌, ◌==◌, ℕ, ◌+◌, false, List, [], ◌∷◌, length, refl, arith}
+use Rattle.std.proofs.Common.{◌≡◌, ◌<◌, ◌==◌, ℕ, false, List, [], ◌∷◌, length, refl, arith}
 use Rattle.byte_format.specs.Format.{At, reached}
 use Rattle.child_replies.specs.Steps.{Stops}
 use Rattle.child_replies.proofs.Moves.{stops_wrong}

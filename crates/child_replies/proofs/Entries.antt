@@ -1,5 +1,5 @@
 -- The entries of a row, from a place on.
-use Rattle.std.proofs.Common.{◌≡◌, ◌≤◌, ◌<◌, ℕ, zero, suc, ◌+◌, ◌-◌, Bool, true, false, not, cond, List, [], ◌∷◌, ◌++◌, length, drop, slice_index_or, ℤ, pos, refl, sym, ◌∙◌, ap, subst, arith, drop-cons, drop_of_length-le, add-one, append-nil, append_assoc, zero-add, flat_map}
+use Rattle.std.proofs.Common.{◌≡◌, ◌≤◌, ◌<◌, ℕ, zero, suc, ◌+◌, ◌-◌, Bool, true, false, not, cond, List, [], ◌∷◌, ◌++◌, length, drop, slice_index_or, ℤ, pos, refl, sym, ◌∙◌, ap, arith, drop-cons, drop_of_length-le, append-nil, append_assoc, zero-add, flat_map}
 use Rattle.std.specs.List.{range_with_len}
 use Rattle.std.proofs.lemmas.List.Concat.{flat_map-append}
 use Rattle.bound_certificate.proofs.Below.{range_with_len-more}

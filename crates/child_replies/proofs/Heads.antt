@@ -1,5 +1,5 @@
 -- The fields of a replay reply's head.
-use Rattle.std.proofs.Common.{◌≡◌, ◌==◌, ℕ, ◌+◌, ◌*◌, Bool, true, false, List, ◌++◌, ◌<◌, length, eq-eqb, Some, [], ◌∷◌, inl, inr, subst, slice_index, Ok, Err, refl, sym, ◌∙◌, ap, arith}
+use Rattle.std.proofs.Common.{◌≡◌, ◌==◌, ℕ, Bool, false, List, ◌++◌, ◌<◌, length, eq-eqb, Some, [], ◌∷◌, inl, inr, subst, slice_index, refl, sym, ◌∙◌, ap, arith}
 use Rattle.std.proofs.lemmas.Bool.Decides.{nat_tests}
 use Rattle.byteorder.specs.Endian.{little_number}
 use Rattle.child_replies.proofs.Moves.{moves_on, stops_short, stops_wrong}

@@ -1,5 +1,5 @@
 -- The fields of the heaps, where they go on, and where they end.
-use Rattle.std.proofs.Common.{◌≡◌, ◌<◌, ◌==◌, ◌&&◌, ◌%◌, ℕ, zero, suc, ◌+◌, ◌-◌, Bool, true, false, nat_le, List, [], ◌∷◌, ◌++◌, length, ℤ, Option, None, Some, slice_get, refl, sym, ◌∙◌, ap, subst, eq-eqb, ne_eqb, arith, if◌then◌else◌}
+use Rattle.std.proofs.Common.{◌≡◌, ◌<◌, ◌&&◌, ◌%◌, ℕ, zero, suc, ◌+◌, ◌-◌, Bool, true, false, nat_le, List, [], ◌∷◌, ◌++◌, length, ℤ, None, Some, slice_get, refl, sym, ◌∙◌, ap, subst, eq-eqb, ne_eqb, arith, if◌then◌else◌}
 use Rattle.std.specs.Cmp.Lexicographic.{slice_cmp}
 use Rattle.std.specs.Ordering.{nat_cmp, is_lt}
 use Rattle.std.proofs.Math.Bool.{and-false}

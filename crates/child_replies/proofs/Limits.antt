@@ -1,11 +1,11 @@
 -- The numbers of a sketch within their limits.
-use Rattle.std.proofs.Common.{◌≡◌, ℕ, ◌+◌, ◌*◌, ◌<◌, ◌≤◌, arith}
+use Rattle.std.proofs.Common.{ℕ, ◌*◌, ◌<◌, ◌≤◌, arith}
 use Rattle.std.specs.Bool.{IsTrue}
 use Rattle.std.proofs.lemmas.Bool.Decides.{nat_tests}
 use Rattle.std.proofs.Math.Nat.{mul-pos, mul-lt-mul_of_pos_right}
 use Rattle.hash_family.specs.Limits.{are_within}
 use Rattle.hash_family.specs.Setting.{Setting}
-use Rattle.reply_format.specs.Reply.{counter_count, level_count, row_count}
+use Rattle.reply_format.specs.Reply.{counter_count, row_count}
 
 module _ (levels rows width heap : ℕ) (within : IsTrue (are_within levels rows width heap)) where
   pub few_levels : levels ≤ 16

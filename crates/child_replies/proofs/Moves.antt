@@ -1,5 +1,5 @@
 -- How reading goes on, in every format whose faults are those of replies, and of replay replies.
-use Rattle.std.proofs.Common.{◌≡◌, ◌<◌, ℕ, Bool, true, false, List, [], ◌++◌, length, Option, None, Some, cond, Result, Ok, Err, refl, sym, ◌∙◌, ap, subst, arith, nat_le, nat_lt, inl, inr, ◌⊎◌}
+use Rattle.std.proofs.Common.{◌≡◌, ◌<◌, ℕ, Bool, true, false, List, [], ◌++◌, length, Option, None, Some, cond, Result, Ok, Err, ◌∙◌, ap, arith, inl, inr}
 use Rattle.byte_format.proofs.Formats.{TakesBytes, reached-append, reached-broken, reached-field, reached-on, reached-part}
 use Rattle.byte_format.specs.Format.{Format, Reached, At, Broken, judged, reached}
 use Rattle.child_replies.specs.Steps.{MayStop, Moves, Stops, stop_of}
@@ -8,7 +8,7 @@ use Rattle.reply_format.specs.Places as places
 use Rattle.reply_format.specs.Read.{is_end}
 use Rattle.reply_format.specs.Reply.{ReplayHead}
 use Rattle.reply_format.specs.declared.fault.ReplyFault.{ReplyFault}
-use Rattle.reply_format.specs.declared.fault.ReplyFault.TheVariants.{Short, Extra}
+use Rattle.reply_format.specs.declared.fault.ReplyFault.TheVariants.{Short}
 
 module _ {S : Type 0} (g : Format S ReplyFault) (takes : TakesBytes g) (whole : S → Bool) where
   -- a field that stands

@@ -1,6 +1,6 @@
 -- Where the counters go on, and where they end.
-use Rattle.std.proofs.Common.{◌≡◌, ◌<◌, ◌==◌, ℕ, ◌+◌, ◌-◌, Bool, true, false, List, [], ◌++◌, length, ℤ, ap, eq-eqb, ne_eqb, arith, if◌then◌else◌}
-use Rattle.reply_format.specs.Places.{Bucket, Counter, HeapLength, Place, RowCount, behind_counter, behind_row, behind_value, zeros}
+use Rattle.std.proofs.Common.{◌≡◌, ◌<◌, ℕ, ◌-◌, Bool, List, [], ◌++◌, length, ℤ, ap, eq-eqb, ne_eqb, arith, if◌then◌else◌}
+use Rattle.reply_format.specs.Places.{Bucket, Counter, HeapLength, RowCount, behind_counter, behind_row, behind_value, zeros}
 use Rattle.reply_format.specs.Reply.{ReplayHead, counter_count}
 
 module _ (e : ReplayHead) (counters : List ℤ) where

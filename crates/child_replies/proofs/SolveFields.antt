@@ -1,9 +1,9 @@
 -- The fields of a solve reply up to its tree.
-use Rattle.std.proofs.Common.{◌≡◌, ◌<◌, ◌≤◌, ◌==◌, ◌&&◌, ◌||◌, ℕ, ◌+◌, ◌-◌, ◌*◌, Bool, true, false, nat_le, nat_lt, List, [], ◌∷◌, ◌++◌, length, slice_index, refl, sym, ◌∙◌, ap, subst, inl, inr, eq-eqb, ne_eqb, le-leb, lt-ltb, arith, append_assoc, length-append, All, if◌then◌else◌}
+use Rattle.std.proofs.Common.{◌≡◌, ◌<◌, ◌≤◌, ◌==◌, ◌&&◌, ℕ, ◌+◌, ◌-◌, Bool, true, false, nat_le, nat_lt, List, [], ◌∷◌, ◌++◌, length, refl, sym, ◌∙◌, ap, subst, inl, inr, eq-eqb, ne_eqb, le-leb, lt-ltb, arith, append_assoc, length-append, if◌then◌else◌}
 use Rattle.std.proofs.lemmas.Bool.{lt-leb, le-ltb}
 use Rattle.std.proofs.lemmas.List.Elements.{All-push}
 use Rattle.byteorder.specs.Endian.{little_number}
-use Rattle.byte_format.specs.Format.{Reached, At, Broken, reached}
+use Rattle.byte_format.specs.Format.{Reached}
 use Rattle.byte_format.proofs.Formats.{TakesBytes}
 use Rattle.child_replies.specs.Fields.{Lacks, Takes, is_version}
 use Rattle.child_replies.specs.Solved.{HasSites}

@@ -1,18 +1,7 @@
 -- What whole replies are read as.
-use Rattle.std.proofs.Common.{◌≡◌, ◌<◌, ◌≤◌, ◌^◌, ◌⊎◌, ℕ, Bool, true, false, List, [], ◌∷◌, ◌++◌, length, drop, Option, None, Some, Ok, Err, All, cond, refl, sym, ◌∙◌, ap, subst, inl, inr, append_assoc, append-nil, drop_of_length-le}
-use Rattle.bound_certificate.specs.Outcome.{tree_of}
-use Rattle.bound_certificate.specs.declared.outcome.Outcome.{Outcome}
-use Rattle.bound_certificate.specs.declared.tree.Tree.{Tree}
+use Rattle.std.proofs.Common.{◌≡◌, ℕ, Bool, true, false, List, [], Option, None, Some, cond, refl, sym, ap, subst}
 use Rattle.byte_format.specs.Format.{Reached, At, Broken, reached}
-use Rattle.certificate_text.specs.Bytes.{bytes_of}
-use Rattle.certificate_text.specs.ReadBytes.{IsFormed, ReadsBytes}
-use Rattle.certificate_text.specs.Reading.{Stands}
-use Rattle.certificate_text.specs.declared.fault.TreeBytesFault.{TreeBytesFault}
-use Rattle.certificate_text.specs.declared.fault.TreeBytesFault.TheVariants as trees
-use Rattle.child_replies.specs.Solved.{HasFront, fault_of, found_of, outcome_of}
 use Rattle.child_replies.specs.Steps.{SolveStops, Stops, stop_of}
-use Rattle.child_replies.specs.declared.found.Found.{Found}
-use Rattle.child_replies.specs.declared.found.Found.TheVariants.{Placed, Infeasible, Spent}
 use Rattle.reply_format.proofs.ReplayFaults.{replay_breach, replay_short}
 use Rattle.reply_format.proofs.SolveFaults.{solve_breach, solve_short}
 use Rattle.reply_format.specs.Outcomes.{Place as SolvePlace, is_tree, solve_format}
@@ -20,10 +9,10 @@ use Rattle.reply_format.specs.Outcomes.{Found as AnyFound}
 use Rattle.reply_format.specs.Outcomes as solves
 use Rattle.reply_format.specs.Places.{Place, replay_format}
 use Rattle.reply_format.specs.Places as replays
-use Rattle.reply_format.specs.Read.{BreaksReplay, BreaksSolve, GoesOn, IsFound, IsNoTree, found_bytes, is_end}
-use Rattle.reply_format.specs.Reply.{IsSolveReply, ReplayHead, Solve, SpellsReply, front_bytes, outcome_bytes}
+use Rattle.reply_format.specs.Read.{BreaksReplay, BreaksSolve, is_end}
+use Rattle.reply_format.specs.Reply.{ReplayHead}
 use Rattle.reply_format.specs.declared.fault.ReplyFault.{ReplyFault}
-use Rattle.reply_format.specs.declared.fault.ReplyFault.TheVariants.{Short, Shape, Extra}
+use Rattle.reply_format.specs.declared.fault.ReplyFault.TheVariants.{Short}
 
 -- where bytes stop they broke, or they end inside
 pub data Stopped {S F : Type 0} (whole : S → Bool) (short : F) (now : Reached S F) (fault : F) : Type 0 where

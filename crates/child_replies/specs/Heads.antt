@@ -1,6 +1,5 @@
 -- The fields of a replay reply's head behind the version, each a number that is known.
-use Rattle.std.specs.Prelude.{ℕ, ◌==◌, Bool, List, [], Option, Some, None, if◌then◌else◌}
-use Rattle.byteorder.specs.Endian.{little_number}
+use Rattle.std.specs.Prelude.{ℕ, ◌==◌, [], Option, Some, None, if◌then◌else◌}
 use Rattle.hash_family.specs.Setting.{setting_of}
 use Rattle.child_replies.specs.declared.head_field.HeadField.{HeadField}
 use Rattle.child_replies.specs.declared.head_field.HeadField.TheVariants as fields

@@ -78,10 +78,7 @@ pub(crate) fn read_bucket<'a>(
 }
 
 /// The value of a written counter, and what stands behind it.
-pub(crate) fn read_value<'a>(
-    job: &ReplayJob,
-    rest: &'a [u8],
-) -> Result<(i64, &'a [u8]), ReplyFault>
+pub(crate) fn read_value<'a>(job: &ReplayJob, rest: &'a [u8]) -> Result<(i64, &'a [u8]), ReplyFault>
     ensures on { IfOk result (λ read. (counters : List ℤ) (from left : ℕ) →
         Moves (head_of_job job.now) (Value counters from left) rest.now
         (behind_value (head_of_job job.now) (counters ++ read.0 ∷ []) from left) read.1.now) }

@@ -9,8 +9,8 @@ ghost use Rattle.reply_format.specs.Read.{ReadsReply, read_as};
 ghost use Rattle.reply_format.specs.Reply.{ExpectReplay};
 ghost use Rattle.reply_format.specs.declared.fault.ReplyFault.TheVariants.{Memory};
 
-use crate::cursor::check_bytes;
 use crate::counters::read_counters;
+use crate::cursor::check_bytes;
 use crate::head::read_head;
 use crate::heaps::read_heaps;
 use crate::replay_job::ReplayJob;
@@ -36,11 +36,7 @@ pub(crate) fn read_replay(alloc: Global, job: ReplayJob, bytes: &[u8]) -> Result
 }
 
 // The counters and heaps of a reply to the job, behind which nothing stands.
-fn read_body(
-    alloc: Global,
-    job: &ReplayJob,
-    bytes: &[u8],
-) -> Result<ReplayBody, ReplyFault>
+fn read_body(alloc: Global, job: &ReplayJob, bytes: &[u8]) -> Result<ReplayBody, ReplyFault>
     ensures on { IfOk result (λ body. reached (replay_format (head_of_job job.now)) (At places.Magic []) bytes.now
         ≡ At (places.End (record { counters = body.counters; heaps = body.heaps })) []) }
     ensures stop { IfErr result (λ fault. MayStop (head_of_job job.now) places.Magic bytes.now fault) }

@@ -22,9 +22,15 @@ pub(crate) fn put_replay(
     out: &mut Vec<u8>,
 ) -> Result<(), Memory>
     requires within { IsReplayReply (record {
-      head = head_of number (setting_of params.now) items weight; counters = body.now.counters; heaps = body.now.heaps }) }
+      head = head_of number (setting_of params.now) items weight;
+      counters = body.now.counters;
+      heaps = body.now.heaps;
+    }) }
     ensures { OnOk result (out.new.items ≡ out.old.items ++ replay_bytes 2 (record {
-      head = head_of number (setting_of params.now) items weight; counters = body.now.counters; heaps = body.now.heaps })) }
+      head = head_of number (setting_of params.now) items weight;
+      counters = body.now.counters;
+      heaps = body.now.heaps;
+    })) }
 {
     put_bytes(&head_bytes(number, params, items, weight), out)?;
     match put_body(params, body, out) {
@@ -40,6 +46,11 @@ fn put_body(params: &Params, body: &ReplayBody, out: &mut Vec<u8>) -> Result<(),
     ensures { OnOk result (out.new.items ≡ out.old.items
         ++ (counters_bytes 2 (setting_of params.now) body.now.counters ++ heaps_bytes body.now.heaps)) }
 {
-    put_rows(body.counters.as_slice(), row_count(params), usize::from(params.width), out)?;
+    put_rows(
+        body.counters.as_slice(),
+        row_count(params),
+        usize::from(params.width),
+        out,
+    )?;
     put_heaps(body.heaps.as_slice(), out)
 }

@@ -1,8 +1,8 @@
-use Rattle.std.proofs.Common.{◌≡◌, ◌∙◌, refl, to_z-of_z, arith}
+use Rattle.std.proofs.Common.{refl, arith}
 use Rattle.child_replies.specs.Heads.{head_of_job}
 use Rattle.child_replies.proofs.CounterFields.{row_count_on, row_count_stop}
 use Rattle.child_replies.proofs.Moves.{stops_short}
-use Rattle.reply_format.specs.Places.{Bucket, Counter, RowCount, Value}
+use Rattle.reply_format.specs.Places.{RowCount}
 use Rattle.child_replies.proofs.counter.read_row_count.Goals as goal
 
 pub returns-in_default-clause-stop : goal.returns-in_default-clause-stop

@@ -1,8 +1,8 @@
-use Rattle.std.proofs.Common.{◌≡◌, ◌∙◌, refl, FitsSigned, rules, w64, to_z-of_z, arith}
+use Rattle.std.proofs.Common.{◌∙◌, refl, FitsSigned, rules, w64, to_z-of_z, arith}
 use Rattle.child_replies.specs.Heads.{head_of_job}
 use Rattle.child_replies.proofs.CounterFields.{value_heavy, value_on, value_zero}
 use Rattle.child_replies.proofs.Moves.{stops_short}
-use Rattle.reply_format.specs.Places.{Bucket, Counter, RowCount, Value}
+use Rattle.reply_format.specs.Places.{Value}
 use Rattle.child_replies.proofs.counter.read_value.Goals as goal
 
 pub returns-in_default-clause-stop : goal.returns-in_default-clause-stop

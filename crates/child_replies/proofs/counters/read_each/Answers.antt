@@ -1,9 +1,9 @@
-use Rattle.std.proofs.Common.{◌≡◌, ◌∙◌, ◌<◌, [], List, ℤ, length, ap, inr, subst, arith}
+use Rattle.std.proofs.Common.{◌<◌, [], length, inr, subst, arith}
 use Rattle.child_replies.specs.Heads.{head_of_job}
 use Rattle.child_replies.specs.Steps.{Moves}
 use Rattle.child_replies.proofs.Moves.{stops_on}
 use Rattle.child_replies.proofs.Rows.{counter_more}
-use Rattle.reply_format.specs.Places.{Counter, Place, behind_counter}
+use Rattle.reply_format.specs.Places.{Counter, Place}
 use Rattle.reply_format.specs.Reply.{counter_count}
 use Rattle.child_replies.proofs.counters.read_each.Goals as goal
 

@@ -1,4 +1,4 @@
-use Rattle.std.proofs.Common.{◌≡◌, subst, arith}
+use Rattle.std.proofs.Common.{subst, arith}
 use Rattle.child_replies.specs.Heads.{head_of_job}
 use Rattle.child_replies.specs.Steps.{Moves}
 use Rattle.child_replies.proofs.Moves.{may_stop_on}

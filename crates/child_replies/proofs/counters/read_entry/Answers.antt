@@ -1,6 +1,5 @@
-use Rattle.std.proofs.Common.{◌≡◌, ◌∙◌, ℕ, ◌+◌, ◌-◌, ◌++◌, List, ℤ, ap, sym, subst, inr}
+use Rattle.std.proofs.Common.{◌+◌, ◌-◌, ◌++◌, List, ℤ, inr}
 use Rattle.child_replies.specs.Heads.{head_of_job}
-use Rattle.child_replies.specs.Steps.{Moves, Stops}
 use Rattle.child_replies.proofs.Moves.{stops_on}
 use Rattle.reply_format.specs.Places.{Bucket, Value, zeros}
 use Rattle.child_replies.proofs.counters.read_entry.Goals as goal

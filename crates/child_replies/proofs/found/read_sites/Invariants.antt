@@ -1,5 +1,5 @@
 -- The sites so far stand.
-use Rattle.std.proofs.Common.{◌≡◌, ◌-◌, ◌+◌, ℕ, []}
+use Rattle.std.proofs.Common.{◌-◌, ◌+◌, ℕ, []}
 use Rattle.child_replies.specs.Solved.{HasSites}
 use Rattle.child_replies.specs.Steps.{SolveMoves}
 use Rattle.reply_format.specs.Outcomes.{behind_site}

@@ -5,8 +5,17 @@ pub returns-else-version-eq2-clause-fault : goal.returns-else-version-eq2-clause
 returns-else-version-eq2-clause-fault c =
     let first : (c.in-Some.version == 1) ≡ false = ne_eqb c.in-Some.version 1 c.if-version-eq2.false.0 in
     let second : (c.in-Some.version == 2) ≡ false = ne_eqb c.in-Some.version 2 c.if-version-eq2.false.1 in
-    inr (refl, (c.in-Some.version ∷ [], (c.in-Some.after.now, record {
-      parts = c.in-Some.ensures.parts;
-      whole = refl;
-      tested = ap (λ (b : Bool). b || c.in-Some.version == 2) first ∙ second;
-    })))
+    inr (
+      refl,
+      (
+        c.in-Some.version ∷ [],
+        (
+          c.in-Some.after.now,
+          record {
+            parts = c.in-Some.ensures.parts;
+            whole = refl;
+            tested = ap (λ (b : Bool). b || c.in-Some.version == 2) first ∙ second;
+          },
+        ),
+      ),
+    )

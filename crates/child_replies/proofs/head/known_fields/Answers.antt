@@ -1,5 +1,5 @@
-use Rattle.std.proofs.Common.{◌≡◌, ◌∙◌, sym, subst, Option, None, Some}
-use Rattle.child_replies.specs.Heads.{field_behind, head_of_job, next_place, place_of}
+use Rattle.std.proofs.Common.{◌∙◌, sym, subst, Option}
+use Rattle.child_replies.specs.Heads.{head_of_job, next_place, place_of}
 use Rattle.child_replies.specs.Steps.{Moves}
 use Rattle.child_replies.specs.declared.head_field.HeadField.{HeadField}
 use Rattle.child_replies.proofs.Moves.{stops_on}

@@ -1,5 +1,5 @@
-use Rattle.std.proofs.Common.{◌≡◌, ◌∙◌, [], ◌∷◌, None}
-use Rattle.child_replies.specs.Heads.{head_of_job, next_place}
+use Rattle.std.proofs.Common.{◌∙◌}
+use Rattle.child_replies.specs.Heads.{head_of_job}
 use Rattle.child_replies.specs.Steps.{Moves}
 use Rattle.child_replies.proofs.Heads.{magic_on, magic_stop, version_on, version_stop}
 use Rattle.child_replies.proofs.Moves.{stops_on}

@@ -1,6 +1,5 @@
-use Rattle.std.proofs.Common.{◌≡◌, ◌<◌, ℕ, ◌∙◌, ap, sym, subst, length, arith}
-use Rattle.byteorder.specs.Endian.{little_number}
-use Rattle.child_replies.specs.Heads.{field_fault, field_size, head_of_job, place_of}
+use Rattle.std.proofs.Common.{◌≡◌, ◌<◌, ℕ, ◌∙◌, sym, subst, length}
+use Rattle.child_replies.specs.Heads.{head_of_job, place_of}
 use Rattle.child_replies.specs.Steps.{Stops}
 use Rattle.child_replies.proofs.Heads.{known_inside, known_on, known_size, known_wrong}
 use Rattle.child_replies.proofs.Moves.{stops_short}

@@ -1,4 +1,4 @@
-use Rattle.std.proofs.Common.{◌≡◌, ◌∙◌, ap, sym}
+use Rattle.std.proofs.Common.{◌∙◌, ap, sym}
 use Rattle.std.specs.Ordering.{is_lt}
 use Rattle.child_replies.proofs.HeapFields.{above_last, above_none}
 use Rattle.child_replies.proofs.heaps.is_above.Goals as goal

@@ -1,4 +1,4 @@
-use Rattle.std.proofs.Common.{◌≡◌, ◌%◌, [], nat_le, inr}
+use Rattle.std.proofs.Common.{◌%◌, [], nat_le, inr}
 use Rattle.child_replies.specs.Heads.{head_of_job}
 use Rattle.child_replies.proofs.Moves.{may_stop_on}
 use Rattle.reply_format.specs.Places.{HeapLength, behind_key}

@@ -1,4 +1,4 @@
-use Rattle.std.proofs.Common.{◌≡◌, ◌∙◌, sym, refl}
+use Rattle.std.proofs.Common.{◌∙◌, sym, refl}
 use Rattle.child_replies.specs.Heads.{head_of_job}
 use Rattle.child_replies.proofs.HeapFields.{heap_length_on, heap_length_stop}
 use Rattle.child_replies.proofs.Moves.{stops_short}

@@ -1,4 +1,4 @@
-use Rattle.std.proofs.Common.{◌≡◌, ◌∙◌, sym, refl}
+use Rattle.std.proofs.Common.{◌∙◌, sym, refl}
 use Rattle.child_replies.proofs.HeapFields.{key_below, key_none, key_on}
 use Rattle.child_replies.proofs.Moves.{stops_short}
 use Rattle.reply_format.specs.Places.{HeapKey}

@@ -1,4 +1,4 @@
-use Rattle.std.proofs.Common.{◌≡◌, ◌∙◌, ◌-◌, ◌+◌, ◌<◌, ◌++◌, ◌∷◌, [], ℕ, List, ℤ, sym, ap, inr, subst, arith}
+use Rattle.std.proofs.Common.{◌∙◌, ◌-◌, ◌+◌, ◌<◌, ◌++◌, ◌∷◌, [], ℕ, List, sym, ap, inr, subst, arith}
 use Rattle.child_replies.specs.Heads.{head_of_job}
 use Rattle.child_replies.specs.Steps.{Moves, Stops}
 use Rattle.child_replies.proofs.HeapFields.{key_more, next_key}

@@ -1,5 +1,5 @@
 -- The keys so far stand.
-use Rattle.std.proofs.Common.{◌≡◌, ◌-◌, [], List, ℤ, length}
+use Rattle.std.proofs.Common.{◌-◌, [], List, ℤ}
 use Rattle.child_replies.specs.Heads.{head_of_job}
 use Rattle.child_replies.specs.Steps.{Moves}
 use Rattle.reply_format.specs.Places.{behind_key}

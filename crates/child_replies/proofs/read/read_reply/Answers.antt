@@ -1,4 +1,4 @@
-use Rattle.std.proofs.Common.{◌≡◌, ◌⊎◌, inl, inr, subst, sym}
+use Rattle.std.proofs.Common.{inl, inr, subst, sym}
 use Rattle.reply_format.proofs.OneRead.{one_read}
 use Rattle.reply_format.specs.Read.{ReadsReply, read_as}
 use Rattle.reply_format.specs.Reply.{expect_of}

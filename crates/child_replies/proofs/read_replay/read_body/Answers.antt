@@ -1,13 +1,11 @@
-use Rattle.std.proofs.Common.{◌≡◌, ◌∙◌, ◌<◌, [], List, ℕ, ℤ, length, sym, ap, subst, inr, eqb-true}
-use Rattle.byte_format.specs.Format.{At, reached}
+use Rattle.std.proofs.Common.{◌≡◌, ◌∙◌, ◌<◌, [], List, ℤ, length, sym, ap, inr, eqb-true}
+use Rattle.byte_format.specs.Format.{At}
 use Rattle.child_replies.specs.Heads.{head_of_job}
-use Rattle.child_replies.specs.Steps.{Moves}
 use Rattle.child_replies.proofs.Ends.{end_extra, end_whole, some_left}
 use Rattle.child_replies.proofs.Moves.{may_stop_on, stops_on}
 use Rattle.reply_format.specs.Places.{Body, End, HeapLength}
 use Rattle.reply_format.specs.Places as places
 use Rattle.reply_format.specs.declared.fault.ReplyFault.TheVariants.{Extra}
-use Rattle.reply_format.specs.declared.heap.Heap.{Heap}
 use Rattle.child_replies.proofs.read_replay.read_body.Goals as goal
 
 pub returns-in-Err-read_heaps-clause-stop : goal.returns-in-Err-read_heaps-clause-stop

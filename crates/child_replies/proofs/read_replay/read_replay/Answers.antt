@@ -1,4 +1,4 @@
-use Rattle.std.proofs.Common.{◌≡◌, ◌⊎◌, Result, Err, ap, inl, inr, refl}
+use Rattle.std.proofs.Common.{Result, Err, ap, inl, inr, refl}
 use Rattle.child_replies.specs.Heads.{head_of_job}
 use Rattle.reply_format.proofs.ReplayBack.{replay_back}
 use Rattle.child_replies.proofs.Tops.{replay_stop}
@@ -8,8 +8,11 @@ use Rattle.child_replies.proofs.read_replay.read_replay.Goals as goal
 
 pub returns-in-Ok : goal.returns-in-Ok
 returns-in-Ok c =
-    inr (refl, replay_back (head_of_job c.args.job) c.args.bytes.now (record { counters = c.in-Ok.body.counters; heaps = c.in-Ok.body.heaps })
-    c.args.job.params.within c.check_bytes.ensures c.in-Ok.ensures.on)
+    inr (
+      refl,
+      replay_back (head_of_job c.args.job) c.args.bytes.now (record { counters = c.in-Ok.body.counters; heaps = c.in-Ok.body.heaps })
+          c.args.job.params.within c.check_bytes.ensures c.in-Ok.ensures.on,
+    )
 
 pub returns-in-Err : goal.returns-in-Err
 returns-in-Err c =

@@ -1,4 +1,4 @@
-use Rattle.std.proofs.Common.{◌≡◌, ◌∙◌, ◌⊎◌, Result, Err, ap, inl, inr}
+use Rattle.std.proofs.Common.{Result, Err, ap, inl, inr}
 use Rattle.child_replies.proofs.SolveFields.{may_stop_on}
 use Rattle.child_replies.proofs.Tops.{solve_stop}
 use Rattle.reply_format.specs.Outcomes as solves

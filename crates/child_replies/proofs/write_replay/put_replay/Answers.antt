@@ -1,4 +1,4 @@
-use Rattle.std.proofs.Common.{◌≡◌, ◌∙◌, ◌++◌, List, ℕ, ap, append_assoc}
+use Rattle.std.proofs.Common.{◌∙◌, ◌++◌, List, ℕ, ap, append_assoc}
 use Rattle.hash_family.specs.Setting.{setting_of}
 use Rattle.reply_format.specs.Reply.{counters_bytes, head_bytes, head_of, heaps_bytes}
 use Rattle.child_replies.proofs.write_replay.put_replay.Goals as goal

@@ -1,4 +1,4 @@
-use Rattle.std.proofs.Common.{◌≡◌, ◌∙◌, ◌++◌, List, ℕ, arith}
+use Rattle.std.proofs.Common.{◌++◌, arith}
 use Rattle.reply_format.specs.Reply.{entries_bytes}
 use Rattle.child_replies.proofs.Entries.{entries_end, entries_step}
 use Rattle.child_replies.proofs.write_row.put_entries.Goals as goal

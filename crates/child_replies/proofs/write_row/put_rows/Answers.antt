@@ -1,4 +1,4 @@
-use Rattle.std.proofs.Common.{◌≡◌, ◌∙◌, ◌++◌, ◌+◌, List, ℕ, ℤ, ap, sym, append_assoc, append-nil}
+use Rattle.std.proofs.Common.{◌∙◌, ◌++◌, List, ℕ, ℤ, ap, sym, append_assoc, append-nil}
 use Rattle.child_replies.proofs.Entries.{sparse_more, sparse_none}
 use Rattle.reply_format.specs.Reply.{row_bytes, sparse_bytes}
 use Rattle.child_replies.proofs.write_row.put_rows.Goals as goal
