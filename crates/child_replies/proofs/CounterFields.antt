@@ -24,7 +24,8 @@ module _ (e : ReplayHead) (counters : List ℤ) (field after bytes : List ℕ) (
         → Moves e (Counter counters) bytes (behind_counter e (counters ++ value ∷ [])) after
     unfolding judge_place
     counter_on value same less =
-        subst (λ (z : ℤ). Moves e (Counter counters) bytes (behind_counter e (counters ++ z ∷ [])) after) (sym (value_of value same))
+        subst (λ (z : ℤ). Moves e (Counter counters) bytes (behind_counter e (counters ++ z ∷ [])) after)
+        (sym (value_of value same))
         (tested_on e (Counter counters) (behind_counter e (counters ++ signed field ∷ [])) field after bytes
         (nat_le (magnitude (little_number 8 field)) e.weight) CounterRange parts whole refl (light less))
 
@@ -39,28 +40,38 @@ module _ (e : ReplayHead) (counters : List ℤ) (field after bytes : List ℕ) (
           → Moves e (Value counters from left) bytes (behind_value e (counters ++ value ∷ []) from left) after
       unfolding judge_place
       value_on value same some less =
-          let above : nat_lt 0 (little_number 8 field) ≡ true = lt-ltb 0 (little_number 8 field) (subst (λ (n : ℕ). 0 < n) is some) in
-          subst (λ (z : ℤ). Moves e (Value counters from left) bytes (behind_value e (counters ++ z ∷ []) from left) after) (sym (value_of value same))
-          (tested_on e (Value counters from left) (behind_value e (counters ++ signed field ∷ []) from left) field after bytes
-          (nat_lt 0 (little_number 8 field) && nat_le (magnitude (little_number 8 field)) e.weight) CounterRange parts whole refl
+          let above : nat_lt 0 (little_number 8 field)
+          ≡ true = lt-ltb 0 (little_number 8 field) (subst (λ (n : ℕ). 0 < n) is some) in
+          subst (λ (z : ℤ). Moves e (Value counters from left) bytes
+          (behind_value e (counters ++ z ∷ []) from left) after) (sym (value_of value same))
+          (tested_on e (Value counters from left)
+          (behind_value e (counters ++ signed field ∷ []) from left) field after bytes
+          (nat_lt 0 (little_number 8 field) && nat_le (magnitude (little_number 8 field)) e.weight) CounterRange parts
+          whole refl
           (ap (λ (b : Bool). b && nat_le (magnitude (little_number 8 field)) e.weight) above ∙ light less))
 
-      value_wrong : (nat_lt 0 (little_number 8 field) && nat_le (magnitude (little_number 8 field)) e.weight) ≡ false → Stops e (Value counters from left) bytes CounterRange
+      value_wrong : (nat_lt 0 (little_number 8 field) && nat_le (magnitude (little_number 8 field)) e.weight) ≡ false
+          → Stops e (Value counters from left) bytes CounterRange
       unfolding judge_place
       value_wrong wrong =
-          tested_stop e (Value counters from left) (behind_value e (counters ++ signed field ∷ []) from left) field after bytes
-          (nat_lt 0 (little_number 8 field) && nat_le (magnitude (little_number 8 field)) e.weight) CounterRange parts whole refl wrong
+          tested_stop e (Value counters from left)
+          (behind_value e (counters ++ signed field ∷ []) from left) field after bytes
+          (nat_lt 0 (little_number 8 field) && nat_le (magnitude (little_number 8 field)) e.weight) CounterRange parts
+          whole refl wrong
 
       pub value_zero : number ≡ 0 → Stops e (Value counters from left) bytes CounterRange
       value_zero none =
-          value_wrong (ap (λ (n : ℕ). nat_lt 0 n && nat_le (magnitude (little_number 8 field)) e.weight) (sym is ∙ none))
+          value_wrong (ap (λ (n : ℕ). nat_lt 0 n && nat_le (magnitude (little_number 8 field)) e.weight)
+          (sym is ∙ none))
 
       pub value_heavy : e.weight < magnitude number → Stops e (Value counters from left) bytes CounterRange
       value_heavy more =
-          value_wrong (ap (λ (b : Bool). nat_lt 0 (little_number 8 field) && b) (heavy more) ∙ and-false (nat_lt 0 (little_number 8 field)))
+          value_wrong (ap (λ (b : Bool). nat_lt 0 (little_number 8 field) && b) (heavy more)
+          ∙ and-false (nat_lt 0 (little_number 8 field)))
 
   module _ (whole : length field ≡ 2) (number : ℕ) (is : number ≡ little_number 2 field) where
-    pub row_count_on : number ≤ e.setting.width → Moves e (RowCount counters) bytes (behind_value e counters 0 number) after
+    pub row_count_on : number ≤ e.setting.width
+        → Moves e (RowCount counters) bytes (behind_value e counters 0 number) after
     unfolding judge_place
     row_count_on few =
         subst (λ (n : ℕ). Moves e (RowCount counters) bytes (behind_value e counters 0 n) after) (sym is)
@@ -77,22 +88,28 @@ module _ (e : ReplayHead) (counters : List ℤ) (field after bytes : List ℕ) (
 
     module _ (from left : ℕ) where
       pub bucket_on : from ≤ number → number < e.setting.width
-          → Moves e (Bucket counters from left) bytes (Value (counters ++ zeros (number - from)) (number + 1) (left - 1)) after
+          → Moves e (Bucket counters from left) bytes
+          (Value (counters ++ zeros (number - from)) (number + 1) (left - 1)) after
       unfolding judge_place
       bucket_on above below =
           let n = little_number 2 field in
           let first : nat_le from n ≡ true = le-leb from n (subst (λ (m : ℕ). from ≤ m) is above) in
-          let second : nat_lt n e.setting.width ≡ true = lt-ltb n e.setting.width (subst (λ (m : ℕ). m < e.setting.width) is below) in
-          subst (λ (m : ℕ). Moves e (Bucket counters from left) bytes (Value (counters ++ zeros (m - from)) (m + 1) (left - 1)) after) (sym is)
-          (tested_on e (Bucket counters from left) (Value (counters ++ zeros (n - from)) (n + 1) (left - 1)) field after bytes
+          let second : nat_lt n e.setting.width ≡ true = lt-ltb n e.setting.width
+          (subst (λ (m : ℕ). m < e.setting.width) is below) in
+          subst (λ (m : ℕ). Moves e (Bucket counters from left) bytes
+          (Value (counters ++ zeros (m - from)) (m + 1) (left - 1)) after) (sym is)
+          (tested_on e (Bucket counters from left)
+          (Value (counters ++ zeros (n - from)) (n + 1) (left - 1)) field after bytes
           (nat_le from n && nat_lt n e.setting.width) CounterPlace parts whole refl
           (ap (λ (b : Bool). b && nat_lt n e.setting.width) first ∙ second))
 
-      bucket_wrong : (nat_le from (little_number 2 field) && nat_lt (little_number 2 field) e.setting.width) ≡ false → Stops e (Bucket counters from left) bytes CounterPlace
+      bucket_wrong : (nat_le from (little_number 2 field) && nat_lt (little_number 2 field) e.setting.width) ≡ false
+          → Stops e (Bucket counters from left) bytes CounterPlace
       unfolding judge_place
       bucket_wrong wrong =
           let n = little_number 2 field in
-          tested_stop e (Bucket counters from left) (Value (counters ++ zeros (n - from)) (n + 1) (left - 1)) field after bytes
+          tested_stop e (Bucket counters from left)
+          (Value (counters ++ zeros (n - from)) (n + 1) (left - 1)) field after bytes
           (nat_le from n && nat_lt n e.setting.width) CounterPlace parts whole refl wrong
 
       pub bucket_low : number < from → Stops e (Bucket counters from left) bytes CounterPlace

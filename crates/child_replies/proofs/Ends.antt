@@ -19,7 +19,8 @@ module _ (e : ReplayHead) (body : Body) where
   end_extra (byte ∷ rest) some = stops_wrong e (End body) (byte ∷ []) rest (byte ∷ rest) Extra refl refl refl
 
   -- and none
-  pub end_whole : (rest : List ℕ) → length rest ≡ 0 → reached (replay_format e) (At (End body) []) rest ≡ At (End body) []
+  pub end_whole : (rest : List ℕ) → length rest ≡ 0
+      → reached (replay_format e) (At (End body) []) rest ≡ At (End body) []
   unfolding reached
   end_whole [] none = refl
   end_whole (byte ∷ rest) none = absurd (omega (arith, none))

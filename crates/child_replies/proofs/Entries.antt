@@ -27,18 +27,22 @@ entry_zero : (row : List ℤ) (i : ℕ) → i < length row → is_nonzero (slice
 unfolding entries_bytes
 entry_zero row i less is =
     ap (λ (l : List ℤ). entries_bytes i l) (at_place row i less)
-    ∙ ap (λ (b : Bool). cond b [] (little_bytes 2 i ++ counter_bytes (slice_index_or row i (pos 0))) ++ entries_bytes (i + 1) (drop (i + 1) row))
+    ∙ ap (λ (b : Bool). cond b [] (little_bytes 2 i ++ counter_bytes (slice_index_or row i (pos 0)))
+    ++ entries_bytes (i + 1) (drop (i + 1) row))
     (not_false (int_eq (slice_index_or row i (pos 0)) (pos 0)) is)
 
 entry_some : (row : List ℤ) (i : ℕ) → i < length row → is_nonzero (slice_index_or row i (pos 0)) ≡ true
-    → entries_bytes i (drop i row) ≡ (little_bytes 2 i ++ counter_bytes (slice_index_or row i (pos 0))) ++ entries_bytes (i + 1) (drop (i + 1) row)
+    → entries_bytes i (drop i row) ≡ (little_bytes 2 i ++ counter_bytes (slice_index_or row i (pos 0)))
+    ++ entries_bytes (i + 1) (drop (i + 1) row)
 unfolding entries_bytes
 entry_some row i less is =
     ap (λ (l : List ℤ). entries_bytes i l) (at_place row i less)
-    ∙ ap (λ (b : Bool). cond b [] (little_bytes 2 i ++ counter_bytes (slice_index_or row i (pos 0))) ++ entries_bytes (i + 1) (drop (i + 1) row))
+    ∙ ap (λ (b : Bool). cond b [] (little_bytes 2 i ++ counter_bytes (slice_index_or row i (pos 0)))
+    ++ entries_bytes (i + 1) (drop (i + 1) row))
     (not_true (int_eq (slice_index_or row i (pos 0)) (pos 0)) is)
 
-entries_gap : (row : List ℤ) (gap from : ℕ) → from + gap ≤ length row → ((i : ℕ) → from ≤ i → i < from + gap → is_nonzero (slice_index_or row i (pos 0)) ≡ false)
+entries_gap : (row : List ℤ) (gap from : ℕ) → from + gap ≤ length row
+    → ((i : ℕ) → from ≤ i → i < from + gap → is_nonzero (slice_index_or row i (pos 0)) ≡ false)
     → entries_bytes from (drop from row) ≡ entries_bytes (from + gap) (drop (from + gap) row)
 entries_gap row zero from within zeros =
     let same : from ≡ from + 0 = omega arith in
@@ -46,7 +50,8 @@ entries_gap row zero from within zeros =
 entries_gap row (suc gap) from within zeros =
     let same : from + 1 + gap ≡ from + suc gap = omega arith in
     entry_zero row from (omega (arith, within)) (zeros from (omega arith) (omega arith))
-    ∙ entries_gap row gap (from + 1) (omega (arith, within)) (λ i above below. zeros i (omega (arith, above)) (omega (arith, below)))
+    ∙ entries_gap row gap (from + 1) (omega (arith, within))
+    (λ i above below. zeros i (omega (arith, above)) (omega (arith, below)))
     ∙ ap (λ (n : ℕ). entries_bytes n (drop n row)) same
 
 entries_until : (row : List ℤ) (from place : ℕ) → from ≤ place → place ≤ length row
@@ -54,13 +59,16 @@ entries_until : (row : List ℤ) (from place : ℕ) → from ≤ place → place
     → entries_bytes from (drop from row) ≡ entries_bytes place (drop place row)
 entries_until row from place above within zeros =
     let to : from + (place - from) ≡ place = omega (arith, above) in
-    entries_gap row (place - from) from (omega (arith, to, within)) (λ i at_least below. zeros i at_least (omega (arith, below, to)))
+    entries_gap row (place - from) from (omega (arith, to, within))
+    (λ i at_least below. zeros i at_least (omega (arith, below, to)))
     ∙ ap (λ (n : ℕ). entries_bytes n (drop n row)) to
 
 -- up to the next one that isn't 0, that one, and those behind it
-pub entries_next : (row : List ℤ) (from place : ℕ) → from ≤ place → place < length row → is_nonzero (slice_index_or row place (pos 0)) ≡ true
+pub entries_next : (row : List ℤ) (from place : ℕ) → from ≤ place → place < length row
+    → is_nonzero (slice_index_or row place (pos 0)) ≡ true
     → ((i : ℕ) → from ≤ i → i < place → is_nonzero (slice_index_or row i (pos 0)) ≡ false)
-    → entries_bytes from (drop from row) ≡ (little_bytes 2 place ++ counter_bytes (slice_index_or row place (pos 0))) ++ entries_bytes (place + 1) (drop (place + 1) row)
+    → entries_bytes from (drop from row) ≡ (little_bytes 2 place ++ counter_bytes (slice_index_or row place (pos 0)))
+    ++ entries_bytes (place + 1) (drop (place + 1) row)
 entries_next row from place above below is zeros =
     entries_until row from place above (omega (arith, below)) zeros ∙ entry_some row place below is
 
@@ -69,19 +77,23 @@ unfolding entries_bytes
 nothing bucket row is = ap (λ (l : List ℤ). entries_bytes bucket l) is
 
 -- and none where all are 0
-pub entries_none : (row : List ℤ) (from : ℕ) → from ≤ length row → ((i : ℕ) → from ≤ i → i < length row → is_nonzero (slice_index_or row i (pos 0)) ≡ false)
+pub entries_none : (row : List ℤ) (from : ℕ) → from ≤ length row
+    → ((i : ℕ) → from ≤ i → i < length row → is_nonzero (slice_index_or row i (pos 0)) ≡ false)
     → entries_bytes from (drop from row) ≡ []
 entries_none row from within zeros =
     entries_until row from (length row) within (omega arith) zeros
     ∙ nothing (length row) (drop (length row) row) (drop_of_length-le row (le_refl (length row)))
 
 -- a row more
-pub sparse_more : (rows width : ℕ) (counters : List ℤ) → sparse_bytes (rows + 1) width counters ≡ sparse_bytes rows width counters ++ row_bytes (row_at width counters rows)
+pub sparse_more : (rows width : ℕ) (counters : List ℤ)
+    → sparse_bytes (rows + 1) width counters ≡ sparse_bytes rows width counters
+    ++ row_bytes (row_at width counters rows)
 unfolding sparse_bytes
 sparse_more rows width counters =
     ap (λ (l : List ℕ). flat_map (λ row. row_bytes (row_at width counters row)) l) (range_with_len-more 0 rows)
     ∙ flat_map-append (λ row. row_bytes (row_at width counters row)) (range_with_len 0 rows) ((0 + rows) ∷ [])
-    ∙ ap (λ (l : List ℕ). sparse_bytes rows width counters ++ l) (append-nil (row_bytes (row_at width counters (0 + rows))))
+    ∙ ap (λ (l : List ℕ). sparse_bytes rows width counters ++ l)
+    (append-nil (row_bytes (row_at width counters (0 + rows))))
     ∙ ap (λ (n : ℕ). sparse_bytes rows width counters ++ row_bytes (row_at width counters n)) (zero-add rows)
 
 pub sparse_none : (width : ℕ) (counters : List ℤ) → sparse_bytes 0 width counters ≡ []
@@ -89,7 +101,8 @@ unfolding sparse_bytes
 sparse_none width counters = refl
 
 -- what is written, with what is left
-pub entries_step : (start out more : List ℕ) (row : List ℤ) (from place : ℕ) → more ≡ out ++ (little_bytes 2 place ++ counter_bytes (slice_index_or row place (pos 0)))
+pub entries_step : (start out more : List ℕ) (row : List ℤ) (from place : ℕ) → more ≡ out
+    ++ (little_bytes 2 place ++ counter_bytes (slice_index_or row place (pos 0)))
     → from ≤ place → place < length row → is_nonzero (slice_index_or row place (pos 0)) ≡ true
     → ((i : ℕ) → from ≤ i → i < place → is_nonzero (slice_index_or row i (pos 0)) ≡ false)
     → out ++ entries_bytes from (drop from row) ≡ start

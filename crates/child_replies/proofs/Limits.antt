@@ -29,14 +29,16 @@ module _ (levels rows width heap : ℕ) (within : IsTrue (are_within levels rows
   pub small_heap : heap ≤ 1024
   small_heap = grind (arith, nat_tests)
 
-pub some_counters : (setting : Setting) → IsTrue (are_within setting.levels setting.rows setting.width setting.heap) → 0 < counter_count setting
+pub some_counters : (setting : Setting) → IsTrue (are_within setting.levels setting.rows setting.width setting.heap)
+    → 0 < counter_count setting
 some_counters setting within =
     let rows : 0 < setting.rows = some_rows setting.levels setting.rows setting.width setting.heap within in
     let width : 16 ≤ setting.width = some_width setting.levels setting.rows setting.width setting.heap within in
     mul-pos (mul-pos (omega arith) rows) (omega (arith, width))
 
 -- the counters before a row are fewer than all
-pub rows_less : (setting : Setting) → IsTrue (are_within setting.levels setting.rows setting.width setting.heap) → (row : ℕ) → row < row_count setting
+pub rows_less : (setting : Setting) → IsTrue (are_within setting.levels setting.rows setting.width setting.heap)
+    → (row : ℕ) → row < row_count setting
     → row * setting.width < counter_count setting
 rows_less setting within row less =
     let width : 16 ≤ setting.width = some_width setting.levels setting.rows setting.width setting.heap within in

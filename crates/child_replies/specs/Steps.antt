@@ -16,7 +16,8 @@ stop_of whole short (At place part) = if whole place then None else Some short
 module _ (head : ReplayHead) where
   -- the fields of a replay reply from one place to another stand at the front of bytes, and these are left
   abbrev pub Moves : Place → List ℕ → Place → List ℕ → Type 0
-  Moves from bytes to rest = reached (replay_format head) (At from []) bytes ≡ reached (replay_format head) (At to []) rest
+  Moves from bytes to rest = reached (replay_format head) (At from []) bytes
+      ≡ reached (replay_format head) (At to []) rest
 
   -- the bytes come to this fault, or end too soon
   abbrev pub Stops : Place → List ℕ → ReplyFault → Type 0
@@ -29,7 +30,8 @@ module _ (head : ReplayHead) where
 -- the same of the fields of a solve reply up to its tree
 module _ (number : ℕ) where
   abbrev pub SolveMoves : SolvePlace → List ℕ → SolvePlace → List ℕ → Type 0
-  SolveMoves from bytes to rest = reached (solve_format number) (At from []) bytes ≡ reached (solve_format number) (At to []) rest
+  SolveMoves from bytes to rest = reached (solve_format number) (At from []) bytes
+      ≡ reached (solve_format number) (At to []) rest
 
   abbrev pub SolveStops : SolvePlace → List ℕ → ReplyFault → Type 0
   SolveStops from bytes fault = stop_of is_tree Short (reached (solve_format number) (At from []) bytes) ≡ Some fault

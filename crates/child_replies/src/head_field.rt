@@ -29,7 +29,8 @@ pub(crate) fn pass<'a>(
     rest: &'a [u8],
 ) -> Result<&'a [u8], ReplyFault>
     ensures on { IfOk result (λ after. (version : ℕ) →
-        Moves (head_of_job job.now) (place_of field version) rest.now (next_place (field_behind field) version) after.now) }
+        Moves (head_of_job job.now) (place_of field version) rest.now
+        (next_place (field_behind field) version) after.now) }
     ensures stop { IfErr result (λ fault. (version : ℕ) →
         Stops (head_of_job job.now) (place_of field version) rest.now fault) }
 {

@@ -69,8 +69,8 @@ fn read_heap<'a>(
 fn read_heap_length<'a>(job: &ReplayJob, rest: &'a [u8]) -> Result<(u16, &'a [u8]), ReplyFault>
     ensures on { IfOk result (λ read. (counters : List ℤ) (heaps : List AnyHeap) →
         Moves (head_of_job job.now) (HeapLength counters heaps) rest.now
-        (behind_key (head_of_job job.now) counters heaps (record { dropped = nat_le 32768 read.0; keys = [] }) (read.0 % 32768))
-        read.1.now) }
+        (behind_key (head_of_job job.now) counters heaps (record { dropped = nat_le 32768 read.0; keys = [] })
+        (read.0 % 32768)) read.1.now) }
     ensures stop { IfErr result (λ fault. (counters : List ℤ) (heaps : List AnyHeap) →
         Stops (head_of_job job.now) (HeapLength counters heaps) rest.now fault) }
 {
@@ -104,7 +104,8 @@ fn read_keys<'a>(
         (behind_key (head_of_job job.now) counters heaps (record { dropped = dropped; keys = [] }) count) bytes.now
         (behind_heap (head_of_job job.now) counters (heaps ++ read.0 ∷ [])) read.1.now) }
     ensures stop { IfErr result (λ fault. (counters : List ℤ) (heaps : List AnyHeap) → MayStop (head_of_job job.now)
-        (behind_key (head_of_job job.now) counters heaps (record { dropped = dropped; keys = [] }) count) bytes.now fault) }
+        (behind_key (head_of_job job.now) counters heaps (record { dropped = dropped; keys = [] }) count)
+        bytes.now fault) }
 {
     let mut keys = Items::new(alloc);
     let mut rest = bytes;
@@ -123,10 +124,13 @@ fn read_keys<'a>(
 
 // The next key of a heap, which is above those before it, and what stands behind it.
 fn read_key<'a>(keys: &[FlowKey], rest: &'a [u8]) -> Result<(FlowKey, &'a [u8]), ReplyFault>
-    ensures on { IfOk result (λ read. (head : ReplayHead) (counters : List ℤ) (heaps : List AnyHeap) (dropped : Bool) (left : ℕ) →
+    ensures on { IfOk result (λ read. (head : ReplayHead) (counters : List ℤ) (heaps : List AnyHeap) (dropped : Bool)
+        (left : ℕ) →
         Moves head (HeapKey counters heaps (record { dropped = dropped; keys = keys.now }) left) rest.now
-        (behind_key head counters heaps (record { dropped = dropped; keys = keys.now ++ read.0 ∷ [] }) (left - 1)) read.1.now) }
-    ensures stop { IfErr result (λ fault. (head : ReplayHead) (counters : List ℤ) (heaps : List AnyHeap) (dropped : Bool) (left : ℕ) →
+        (behind_key head counters heaps (record { dropped = dropped; keys = keys.now ++ read.0 ∷ [] }) (left - 1))
+        read.1.now) }
+    ensures stop { IfErr result (λ fault. (head : ReplayHead) (counters : List ℤ) (heaps : List AnyHeap) (dropped : Bool)
+        (left : ℕ) →
         Stops head (HeapKey counters heaps (record { dropped = dropped; keys = keys.now }) left) rest.now fault) }
 {
     let Some((field, after)) = next_field(rest, 44) else {

@@ -18,7 +18,8 @@ pub(crate) fn put_solve(
     out: &mut Vec<u8>,
 ) -> Result<(), Memory>
     requires within { IsSolveReply (record { number = number; outcome = outcome.now }) }
-    ensures { OnOk result (out.new.items ≡ out.old.items ++ solve_bytes 2 (record { number = number; outcome = outcome.now })) }
+    ensures { OnOk result (out.new.items ≡ out.old.items
+        ++ solve_bytes 2 (record { number = number; outcome = outcome.now })) }
 {
     put_bytes(&front_bytes(number), out)?;
     match outcome {

@@ -10,7 +10,9 @@ pub returns-in-Err-clause-stop : goal.returns-in-Err-clause-stop
 returns-in-Err-clause-stop c =
     let e = head_of_job c.args.job.now in
     let start : Place = behind_value e c.args.counters.now.items 0 c.args.count in
-    may_stop_on e start (Bucket c.loop-left.counters.items c.loop-left.from c.loop-left.left) c.args.bytes.now c.loop-left.rest.now c.in-Err.fault
+    may_stop_on e start (Bucket c.loop-left.counters.items c.loop-left.from c.loop-left.left) c.args.bytes.now
+    c.loop-left.rest.now c.in-Err.fault
     (subst (λ (place : Place). Moves e start c.args.bytes.now place c.loop-left.rest.now)
-    (value_more e c.loop-left.counters.items c.loop-left.from c.loop-left.left (omega (arith, c.loop-left-test.true))) c.loop-left.invariant.on)
+    (value_more e c.loop-left.counters.items c.loop-left.from c.loop-left.left (omega (arith, c.loop-left-test.true)))
+    c.loop-left.invariant.on)
     (c.in-Err.ensures.stop c.loop-left.left)

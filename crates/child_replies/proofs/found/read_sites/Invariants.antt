@@ -8,6 +8,7 @@ use Rattle.child_replies.proofs.found.read_sites.Given as goal
 
 abbrev pub invariant-loop : goal.invariant-loop
 invariant-loop l = record {
-  on : (number : ℕ) → SolveMoves number (solves.Site [] l.count) l.fn.bytes (behind_site l.sites (l.count - l.counter + 1)) l.rest;
+  on : (number : ℕ) → SolveMoves number (solves.Site [] l.count) l.fn.bytes
+      (behind_site l.sites (l.count - l.counter + 1)) l.rest;
   parts : HasSites l.counter l.fn.bytes l.sites l.rest;
 }

@@ -7,7 +7,8 @@ use Rattle.reply_format.specs.Places as places
 use Rattle.child_replies.proofs.head.read_head.Goals as goal
 
 pub returns-in-Err-clause-stop : goal.returns-in-Err-clause-stop
-returns-in-Err-clause-stop c = magic_stop (head_of_job c.args.job.now) c.args.bytes.now c.in-Err.fault c.in-Err.ensures.fault
+returns-in-Err-clause-stop c = magic_stop (head_of_job c.args.job.now) c.args.bytes.now c.in-Err.fault
+    c.in-Err.ensures.fault
 
 pub returns-in-Err-version-clause-stop : goal.returns-in-Err-version-clause-stop
 returns-in-Err-version-clause-stop c =
@@ -29,5 +30,6 @@ returns-in-Err-known_fields-clause-stop c =
     let to : Moves e places.Magic c.args.bytes.now (places.Kind c.in-Ok-version.read.0) c.in-Ok-version.read.1.now =
     magic_on e c.args.bytes.now c.in-Ok.field-0-0.now c.in-Ok.rest.now c.in-Ok.ensures.on
     ∙ version_on e c.in-Ok.rest.now c.in-Ok-version.read.1.now c.in-Ok-version.read.0 c.in-Ok-version.ensures.on in
-    stops_on e places.Magic (places.Kind c.in-Ok-version.read.0) c.args.bytes.now c.in-Ok-version.read.1.now c.in-Err-known_fields.fault
+    stops_on e places.Magic (places.Kind c.in-Ok-version.read.0) c.args.bytes.now c.in-Ok-version.read.1.now
+    c.in-Err-known_fields.fault
     to (c.in-Err-known_fields.ensures.stop c.in-Ok-version.read.0)

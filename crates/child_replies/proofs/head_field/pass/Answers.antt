@@ -10,7 +10,8 @@ use Rattle.child_replies.proofs.head_field.pass.Goals as goal
 pub returns-in_default-clause-stop : goal.returns-in_default-clause-stop
 returns-in_default-clause-stop c version =
     let e = head_of_job c.args.job.now in
-    let size : c.size.result ≡ place_size e (place_of c.args.field version) = c.size.ensures ∙ known_size e c.args.field version in
+    let size : c.size.result ≡ place_size e (place_of c.args.field version) = c.size.ensures
+    ∙ known_size e c.args.field version in
     stops_short e (place_of c.args.field version) c.args.rest.now
     (subst (λ (n : ℕ). length c.args.rest.now < n) size c.in_default.ensures.short) (known_inside c.args.field version)
 

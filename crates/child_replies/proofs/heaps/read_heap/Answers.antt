@@ -11,6 +11,7 @@ pub returns-in-Err-read_keys-clause-stop : goal.returns-in-Err-read_keys-clause-
 returns-in-Err-read_keys-clause-stop c counters heaps =
     let e = head_of_job c.args.job.now in
     let length = c.in-Ok.read.0 in
-    may_stop_on e (HeapLength counters heaps) (behind_key e counters heaps (record { dropped = nat_le 32768 length; keys = [] }) (length % 32768))
+    may_stop_on e (HeapLength counters heaps)
+    (behind_key e counters heaps (record { dropped = nat_le 32768 length; keys = [] }) (length % 32768))
     c.args.bytes.now c.in-Ok.read.1.now c.in-Err-read_keys.fault
     (c.in-Ok.ensures.on counters heaps) (c.in-Err-read_keys.ensures.stop counters heaps)

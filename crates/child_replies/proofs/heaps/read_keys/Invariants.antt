@@ -10,4 +10,5 @@ abbrev pub invariant-loop : goal.invariant-loop
 invariant-loop l =
     (counters : List ℤ) (heaps : List Heap) → Moves (head_of_job l.job)
     (behind_key (head_of_job l.job) counters heaps (record { dropped = l.dropped; keys = [] }) l.count) l.fn.bytes
-    (behind_key (head_of_job l.job) counters heaps (record { dropped = l.dropped; keys = l.keys }) (l.count - l.counter)) l.rest
+    (behind_key (head_of_job l.job) counters heaps (record { dropped = l.dropped; keys = l.keys })
+    (l.count - l.counter)) l.rest

@@ -10,7 +10,8 @@ returns-in-Replay-clause-alone c other reads =
     elim c.read_replay.ensures [
       | inl full ↦ inl full
       | inr read ↦ inr (one_read (expect_of c.args.expect.now) c.args.bytes.now (read_as c.read_replay.result) other
-          (subst (λ (expect : Expect). ReadsReply (expect_of expect) c.args.bytes.now (read_as c.read_replay.result)) (sym c.in-Replay.is) read) reads)
+          (subst (λ (expect : Expect). ReadsReply (expect_of expect) c.args.bytes.now (read_as c.read_replay.result))
+          (sym c.in-Replay.is) read) reads)
     ]
 
 pub returns-in-Solve-clause-alone : goal.returns-in-Solve-clause-alone
@@ -18,5 +19,6 @@ returns-in-Solve-clause-alone c other reads =
     elim c.read_solve.ensures [
       | inl full ↦ inl full
       | inr read ↦ inr (one_read (expect_of c.args.expect.now) c.args.bytes.now (read_as c.read_solve.result) other
-          (subst (λ (expect : Expect). ReadsReply (expect_of expect) c.args.bytes.now (read_as c.read_solve.result)) (sym c.in-Solve.is) read) reads)
+          (subst (λ (expect : Expect). ReadsReply (expect_of expect) c.args.bytes.now (read_as c.read_solve.result))
+          (sym c.in-Solve.is) read) reads)
     ]

@@ -10,7 +10,8 @@ pub returns-in-Ok : goal.returns-in-Ok
 returns-in-Ok c =
     inr (
       refl,
-      replay_back (head_of_job c.args.job) c.args.bytes.now (record { counters = c.in-Ok.body.counters; heaps = c.in-Ok.body.heaps })
+      replay_back (head_of_job c.args.job) c.args.bytes.now
+          (record { counters = c.in-Ok.body.counters; heaps = c.in-Ok.body.heaps })
           c.args.job.params.within c.check_bytes.ensures c.in-Ok.ensures.on,
     )
 

@@ -4,4 +4,5 @@ use Rattle.reply_format.specs.Reply.{heaps_bytes}
 use Rattle.child_replies.proofs.write_heap.put_heaps.Given as goal
 
 abbrev pub invariant-loop-heap : goal.invariant-loop-heap
-invariant-loop-heap l = l.out.items ++ heaps_bytes (drop l.heap-index l.heaps) ≡ l.initial.out.items ++ heaps_bytes l.heaps
+invariant-loop-heap l = l.out.items ++ heaps_bytes (drop l.heap-index l.heaps) ≡ l.initial.out.items
+    ++ heaps_bytes l.heaps

@@ -9,5 +9,6 @@ returns-in-Ok c =
     let head : List ℕ = head_bytes 2 (head_of c.args.number setting c.args.items c.args.weight) in
     let body : List ℕ = counters_bytes 2 setting c.args.body.now.counters ++ heaps_bytes c.args.body.now.heaps in
     c.in-Ok.ensures
-    ∙ ap (λ (l : List ℕ). l ++ body) (c.in_ok-put_bytes.ensures ∙ ap (λ (l : List ℕ). c.args.out.now.items ++ l) c.head_bytes.ensures)
+    ∙ ap (λ (l : List ℕ). l ++ body) (c.in_ok-put_bytes.ensures
+    ∙ ap (λ (l : List ℕ). c.args.out.now.items ++ l) c.head_bytes.ensures)
     ∙ append_assoc c.args.out.now.items head body

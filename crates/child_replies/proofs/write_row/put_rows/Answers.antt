@@ -5,7 +5,8 @@ use Rattle.child_replies.proofs.write_row.put_rows.Goals as goal
 
 pub loop-row-init : goal.loop-row-init
 loop-row-init c =
-    sym (append-nil c.args.out.now.items) ∙ ap (λ (l : List ℕ). c.args.out.now.items ++ l) (sym (sparse_none c.args.width c.args.counters.now))
+    sym (append-nil c.args.out.now.items) ∙ ap (λ (l : List ℕ). c.args.out.now.items ++ l)
+    (sym (sparse_none c.args.width c.args.counters.now))
 
 pub loop-row-preserved : goal.loop-row-preserved
 loop-row-preserved c =
