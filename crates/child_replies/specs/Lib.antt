@@ -1,0 +1,5 @@
+pub mod Fields
+pub mod Heads
+pub mod Nonzero
+pub mod Solved
+pub mod Steps

@@ -5,6 +5,9 @@ ghost use Rattle.reply_format.specs.Reply.{Reply as AnyReply, expect_of};
 ghost use Rattle.reply_format.specs.declared.fault.ReplyFault.{ReplyFault as Fault};
 ghost use Rattle.reply_format.specs.declared.fault.ReplyFault.TheVariants.{Memory};
 
+use crate::read_replay::read_replay;
+use crate::read_solve::read_solve;
+use crate::replay_job::ReplayJob;
 use reply_format::{Expect, Reply, ReplyFault};
 use std::alloc::Global;
 
@@ -17,6 +20,21 @@ pub fn read_reply(alloc: Global, bytes: &[u8], expect: &Expect) -> Result<Reply,
     ensures alone { (other : Result AnyReply Fault) → ReadsReply (expect_of expect.now) bytes.now other
         → (result ≡ Err Memory) ⊎ (read_as result ≡ other) }
 {
-    let _ = bytes.len();
-    Err(ReplyFault::Memory)
+    match expect {
+        Expect::Replay {
+            job,
+            params,
+            items,
+            weight,
+        } => {
+            let job = ReplayJob {
+                number: *job,
+                params: *params,
+                items: *items,
+                weight: *weight,
+            };
+            read_replay(alloc, job, bytes)
+        }
+        Expect::Solve { job } => read_solve(alloc, *job, bytes),
+    }
 }

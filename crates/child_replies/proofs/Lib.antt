@@ -1,0 +1,10 @@
+mod CounterFields
+mod Ends
+mod Entries
+mod Heads
+mod HeapFields
+mod Limits
+mod Moves
+mod Rows
+mod SolveFields
+mod Tops

@@ -1,0 +1,23 @@
+use Rattle.std.proofs.Common.{◌∙◌, refl, FitsSigned, rules, w64, to_z-of_z, arith}
+use Rattle.child_replies.specs.Heads.{head_of_job}
+use Rattle.child_replies.proofs.CounterFields.{counter_on, counter_stop}
+use Rattle.child_replies.proofs.Moves.{stops_short}
+use Rattle.reply_format.specs.Places.{Counter}
+use Rattle.child_replies.proofs.counter.read_counter.Goals as goal
+
+pub returns-in_default-clause-stop : goal.returns-in_default-clause-stop
+returns-in_default-clause-stop c counters = stops_short (head_of_job c.args.job.now)
+    (Counter counters) c.args.rest.now c.in_default.ensures.short refl
+
+pub returns-then-magnitude-job-clause-stop : goal.returns-then-magnitude-job-clause-stop
+returns-then-magnitude-job-clause-stop c counters =
+    counter_stop (head_of_job c.args.job.now) counters c.in-Some.field.now c.in-Some.after.now c.args.rest.now
+    c.in-Some.ensures.parts c.in-Some.ensures.whole c.read_u64-number.result c.read_u64-number.ensures
+    (omega (arith, c.magnitude.ensures, c.if-magnitude-job.true))
+
+pub returns-clause-on : goal.returns-clause-on
+returns-clause-on c counters =
+    let fits : FitsSigned w64 c.signed.result = search rules in
+    counter_on (head_of_job c.args.job.now) counters c.in-Some.field.now c.in-Some.after.now c.args.rest.now
+    c.in-Some.ensures.parts c.in-Some.ensures.whole c.read_u64-number.result c.read_u64-number.ensures
+    _ (to_z-of_z fits ∙ c.signed.ensures) (omega (arith, c.magnitude.ensures, c.if-magnitude-job.false))
