@@ -32,8 +32,12 @@ lent reader = if reader.ended then reader.frame.items else []
 abbrev pub kept : JobReader → List Item
 kept reader = if reader.ended then [] else reader.frame.items
 
+-- placeholders, which no crate above unfolds
+unfoldable pub Unbuilt : JobReader → Type 0
+Unbuilt reader = 45 ≤ reader.filled
+
 -- it has taken these bytes, and given out these items
 pub record HasTaken (reader : JobReader) (bytes : List ℕ) (given : List Item) : Type 0 where
   pub leads : state reader ≡ reached job_format (At job_start []) bytes
   pub gives : items_in bytes ≡ given ++ kept reader
-  pub unbuilt : 45 ≤ reader.filled
+  pub unbuilt : Unbuilt reader
