@@ -1,3 +1,6 @@
 pub mod Feeding
+pub mod Filled
+pub mod Gathering
 pub mod Pieces
+pub mod Replying
 pub mod Sketching

@@ -48,3 +48,8 @@ IsWork work = (bytes : List ℕ) × HasWorked work bytes
 abbrev pub StopsAt : List ℕ → WorkStop → Type 0
 StopsAt bytes (stops.Fault fault) = BreaksJob bytes fault
 StopsAt bytes stops.Memory = Unit {0}
+
+-- levels hold these items, of which there are so many
+pub record IsSketchOf (levels : View) (count : ℕ) (items : List Item) : Type 0 where
+  pub held : Holds levels (fed items)
+  pub counted : count ≡ length items
