@@ -1,3 +1,4 @@
+pub mod Endings
 pub mod Feeding
 pub mod Filled
 pub mod Gathering

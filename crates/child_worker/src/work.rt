@@ -2,17 +2,21 @@
 ghost use Rattle.std.specs.Prelude.{◌≡◌, ◌≤◌, ◌<◌, ◌++◌, ◌+◌, ◌^◌, ℕ, List, [], length, take, IfOk, IfErr, OnOk, None, Some};
 ghost use Rattle.job_format.specs.declared.item.Item.{Item as AnItem};
 ghost use Rattle.std.specs.Option.{option_map};
-ghost use Rattle.std.specs.Prelude.{IfSome, Option};
+ghost use Rattle.std.specs.Prelude.{IfSome, Option, ◌⊎◌};
+ghost use Rattle.job_format.specs.Read.{BreaksJob};
+ghost use Rattle.job_format.specs.declared.fault.JobFault.TheVariants as faults;
+ghost use Rattle.child_worker.specs.Replies.{AnswersBytes};
 ghost use Rattle.child_jobs.specs.Heads.{Head, head_of};
 ghost use Rattle.child_jobs.specs.Reader.{known_head};
-ghost use Rattle.child_worker.specs.Work.{Sketches};
+ghost use Rattle.child_worker.specs.Work.{Sketches, StopsAt};
 ghost use Rattle.child_worker.specs.Replies.{fed};
 ghost use Rattle.job_format.specs.Job.{weight_limit, weight_of};
 ghost use Rattle.sketch_levels.specs.Levels.{Holds};
 
 use crate::WorkStop;
+use crate::reply::{bytes_of, reply_to};
 use child_jobs::{JobHead, JobKind, JobReader};
-use job_format::Item;
+use job_format::{Item, JobFault};
 use mon_io::Memory;
 use sketch_levels::Levels;
 use std::alloc::Global;
@@ -27,7 +31,7 @@ pub(crate) struct Work {
 }
 
 impl Work {
-    ghost use Rattle.child_worker.specs.Work.{HasWorked, IsWork, LagsBehind, Stays, StopsAt};
+    ghost use Rattle.child_worker.specs.Work.{HasWorked, IsWork, LagsBehind, Stays};
 
     /// No byte was taken. It takes memory.
     pub(crate) fn new(alloc: Global) -> Result<Work, Memory>
@@ -56,6 +60,33 @@ impl Work {
             }
         }
         Ok(())
+    }
+
+    /// The bytes of a reply to the job, whose bytes are over; else the first breach, `Short` where they end inside the
+    /// job, or `Memory`. It takes memory.
+    pub(crate) fn finish(self) -> Result<Vec<u8>, WorkStop>
+        requires work { IsWork self }
+        ensures answers { IfOk result (λ reply. (bytes : List ℕ) → HasWorked self bytes → AnswersBytes bytes reply.items) }
+        ensures breach { IfErr result (λ stop. (bytes : List ℕ) → HasWorked self bytes → StopsAt bytes stop) }
+    {
+        let Work {
+            alloc,
+            reader,
+            levels,
+            items,
+        } = self;
+        let head = reader.head();
+        let end = match reader.finish(alloc) {
+            Ok(end) => end,
+            Err(fault) => return Err(stop_of(fault)),
+        };
+        let Ok(reply) = reply_to(alloc, head, levels, items, end) else {
+            return Err(WorkStop::Memory);
+        };
+        match bytes_of(alloc, reply) {
+            Ok(bytes) => Ok(bytes),
+            Err(_) => Err(WorkStop::Memory),
+        }
     }
 
     // Takes bytes up to the end of the piece or that of a frame, and sketches the items of that frame.
@@ -101,6 +132,30 @@ impl Work {
         let frame = self.reader.frame();
         feed_any(&mut self.levels, frame);
         self.items += frame.len() as u32;
+    }
+}
+
+/// The bytes of a reply to the job that these bytes spell; else their first breach, or `Memory`. It takes memory.
+pub(crate) fn reply_bytes(alloc: Global, job: &[u8]) -> Result<Vec<u8>, WorkStop>
+    ensures answers { IfOk result (λ reply. AnswersBytes job.now reply.items) }
+    ensures breach { IfErr result (λ stop. StopsAt job.now stop) }
+{
+    let Ok(mut work) = Work::new(alloc) else {
+        return Err(WorkStop::Memory);
+    };
+    match work.take(job) {
+        Ok(()) => work.finish(),
+        Err(stop) => Err(stop),
+    }
+}
+
+// Where a job is not read to its end.
+fn stop_of(fault: JobFault) -> WorkStop
+    ensures breach { (bytes : List ℕ) → (fault ≡ faults.Memory) ⊎ BreaksJob bytes fault → StopsAt bytes result }
+{
+    match fault {
+        JobFault::Memory => WorkStop::Memory,
+        _ => WorkStop::Fault(fault),
     }
 }
 
