@@ -1,6 +1,6 @@
 -- The end of a job, and what answers it.
-use Rattle.std.proofs.Common.{◌≡◌, ℕ, ◌≤◌, ◌<◌, List, [], ◌++◌, length, Option, Some, None, Result, Ok, Err, sym, ◌∙◌, ap, subst, arith, refl, true, get_or, inl, inr, slice_index}
-use Rattle.std.specs.Prelude.{IsTrue, All, IfOk, ◌⊎◌}
+use Rattle.std.proofs.Common.{◌≡◌, ℕ, List, Option, Some, None, Result, Ok, Err, arith, refl, true, inl, inr}
+use Rattle.std.specs.Prelude.{IfOk, ◌⊎◌}
 use Rattle.std.proofs.lemmas.List.{get_or_default}
 use Rattle.bound_certificate.specs.Limits.{IsWithin}
 use Rattle.bound_certificate.specs.Outcome.{is_right}
@@ -9,15 +9,14 @@ use Rattle.bound_certificate.specs.declared.outcome.Outcome.{Outcome}
 use Rattle.bound_certificate.specs.declared.outcome.Outcome.TheVariants as outcomes
 use Rattle.bound_certificate.proofs.Fitting.{fitting}
 use Rattle.bound_certificate.proofs.Meanings.{right_formed, right_shows}
-use Rattle.child_jobs.specs.Heads.{Head, ReplayHead, SolveHead, head_by, head_of}
+use Rattle.child_jobs.specs.Heads.{Head, ReplayHead, SolveHead, head_by}
 use Rattle.child_jobs.specs.declared.end.JobEnd.{JobEnd}
 use Rattle.child_jobs.specs.declared.end.JobEnd.TheVariants as ends
 use Rattle.child_jobs.specs.declared.head.JobKind.{JobKind}
 use Rattle.child_jobs.specs.declared.head.JobKind.TheVariants as kinds
 use Rattle.job_format.specs.Job.{IsSolveJob, Job, Replay, Solve, SpellsReplay, SpellsSolve}
 use Rattle.job_format.specs.declared.item.Item.{Item}
-use Rattle.reply_format.specs.Reply.{HasWritten, IsReply, IsSolveReply, IsWritten, Reply, reply_bytes}
-use Rattle.reply_format.specs.Reply as replies
+use Rattle.reply_format.specs.Reply.{HasWritten, IsReply, IsSolveReply, Reply, reply_bytes}
 use Rattle.sketch_levels.specs.Levels.{View}
 use Rattle.child_worker.specs.Replies.{IsAnswer}
 use Rattle.child_worker.specs.Work.{HasWorked, IsEnded, IsReplyTo, IsSketchOf}

@@ -1,7 +1,6 @@
 -- A heap that dropped a key is full.
-use Rattle.std.proofs.Common.{◌≡◌, ℕ, ℤ, zero, suc, ◌+◌, ◌<◌, ◌≤◌, ◌||◌, true, false, inl, inr, List, [], ◌∷◌, ◌++◌, length, map, get_or, refl, sym, ◌∙◌, ap, subst, arith, pos}
+use Rattle.std.proofs.Common.{◌≡◌, ℕ, ℤ, zero, suc, ◌+◌, ◌<◌, ◌≤◌, true, false, inl, inr, List, [], ◌∷◌, ◌++◌, length, get_or, refl, sym, ◌∙◌, ap, subst, arith, pos}
 use Rattle.std.specs.Prelude.{nat_lt, reverse}
-use Rattle.std.specs.List.{All}
 use Rattle.std.proofs.lemmas.Bool.{both_ways, cases_Bool, ltb-false, ltb-true, or_cases}
 use Rattle.std.proofs.lemmas.List.{get_or_default, length-map, reverse-append, reverse-reverse}
 use Rattle.std.proofs.lemmas.List.Edits.{length-remove}
@@ -14,7 +13,6 @@ use Rattle.topk_heap.specs.declared.entry.Entry.{Entry}
 use Rattle.topk_heap.proofs.Best.{best_of_few, best_of_many}
 use Rattle.topk_heap.proofs.Order.{IsLastSoFar, last_moves, last_of_one, last_stays}
 use Rattle.topk_heap.proofs.Scores.{IsAscending-with_score, length-with_score-le}
-use Rattle.sketch_levels.specs.Items.{distinct_keys}
 use Rattle.sketch_levels.specs.Kept.{is_dropped, kept, kept_keys, score}
 use Rattle.sketch_levels.proofs.Distinct.{keys-with_score, keys_of, length-with_key}
 use Rattle.sketch_levels.proofs.Kept.{all_kept, ascending, is_dropped-none, is_dropped-push, kept-push}
@@ -42,12 +40,14 @@ last_so_far entries (suc n) within =
 -- of one entry at least, one ranks last
 ranks_last : (entries : List Entry) (n : ℕ) → length entries ≡ n + 1 → (place : ℕ) × RanksLast entries place
 ranks_last entries n size =
-    let found = last_so_far entries n (omega arith) in
-    (found.0, record {
-      within = omega (arith, found.1.within);
-      last = λ d. All-from_get_or (λ e. ranks_before (get_or entries found.0 d) e ≡ false) entries d
-          (λ k within. found.1.last k d (omega (arith, size)));
-    })
+    let found = last_so_far entries n (omega arith) in (
+      found.0,
+      record {
+        within = omega (arith, found.1.within);
+        last = λ d. All-from_get_or (λ e. ranks_before (get_or entries found.0 d) e ≡ false) entries d
+            (λ k within. found.1.last k d (omega (arith, size)));
+      },
+    )
 
 -- as many of the best as may be kept, where there are so many or one more
 length-best : (size : ℕ) (entries : List Entry) → IsAscending entries → size ≤ length entries
@@ -68,8 +68,13 @@ length-with_score-ge : (entries : List Entry) (key : List ℕ) (s : ℤ) → IsA
     → length entries ≤ length (with_score entries key s)
 length-with_score-ge entries key s ascends =
     let f : Entry → List ℕ = λ e. e.key in
-    omega (arith, length-map (with_score entries key s) f, length-map entries f,
-    ap length (keys-with_score entries key s ascends), length-with_key (keys_of entries) key)
+    omega (
+      arith,
+      length-map (with_score entries key s) f,
+      length-map entries f,
+      ap length (keys-with_score entries key s ascends),
+      length-with_key (keys_of entries) key,
+    )
 
 -- no more keys are kept than the heap holds, as long as none was dropped
 few_kept : (setting : Setting) (level : ℕ) (items : List Item) → is_dropped setting items ≡ false

@@ -1,5 +1,5 @@
 -- What is gathered level by level.
-use Rattle.std.proofs.Common.{◌≡◌, ℕ, ℤ, ◌+◌, ◌*◌, ◌^◌, ◌≤◌, ◌<◌, List, [], ◌∷◌, ◌++◌, length, map, get_or, unsigned_abs, refl, sym, ◌∙◌, ap, arith, append-nil, map-id}
+use Rattle.std.proofs.Common.{◌≡◌, ℕ, ℤ, ◌+◌, ◌*◌, ◌^◌, ◌≤◌, List, [], ◌∷◌, ◌++◌, get_or, unsigned_abs, sym, ◌∙◌, ap, arith, append-nil, map-id}
 use Rattle.std.specs.List.{All, flat_map, range_with_len}
 use Rattle.std.specs.Int.{w64}
 use Rattle.std.proofs.lemmas.Grind.{flat_map-append}

@@ -1,6 +1,5 @@
 -- Bytes that were taken piece by piece.
-use Rattle.std.proofs.Common.{◌≡◌, ℕ, ◌+◌, ◌-◌, ◌≤◌, List, [], ◌++◌, length, take, drop, sym, ◌∙◌, ap, append_assoc, take-append-drop, take-add}
-use Rattle.std.proofs.lemmas.List.{take_rest}
+use Rattle.std.proofs.Common.{◌≡◌, ℕ, ◌+◌, List, ◌++◌, take, drop, sym, ◌∙◌, ap, append_assoc, take-append-drop, take-add}
 
 -- a part of the rest of a piece, behind all before it
 pub taken_on : (bytes piece : List ℕ) (n m : ℕ)

@@ -1,14 +1,13 @@
 -- An input that work reads piece by piece.
-use Rattle.std.proofs.Common.{◌≡◌, ℕ, ◌≤◌, List, [], ◌++◌, Option, Some, None, inl, inr, refl, sym, ◌∙◌, ap, subst, append-nil, append_assoc, arith}
+use Rattle.std.proofs.Common.{◌≡◌, ℕ, ◌≤◌, List, [], ◌++◌, Option, Some, None, refl, sym, ◌∙◌, subst, append-nil, append_assoc, arith}
 use Rattle.std.specs.Prelude.{IfSome}
-use Rattle.std.specs.Io.KnownBytes.{prepend_known}
 use Rattle.mon_io.specs.Inputs.{InputState, IsOver, Took}
 use Rattle.mon_io.proofs.Told.{took_more, took_nothing}
-use Rattle.job_format.specs.Job.{Job, SpellsJob}
+use Rattle.job_format.specs.Job.{SpellsJob}
 use Rattle.job_format.specs.Read.{BreaksJob}
 use Rattle.job_format.specs.declared.fault.JobFault.{JobFault}
 use Rattle.child_worker.specs.Child.{IsMisspelled, IsReplied}
-use Rattle.child_worker.specs.Replies.{AnswersBytes, IsAnswer}
+use Rattle.child_worker.specs.Replies.{AnswersBytes}
 use Rattle.child_worker.specs.Reading.{BreaksOff, status_at}
 use Rattle.child_worker.specs.Work.{HasWorked, StopsAt}
 use Rattle.child_worker.specs.declared.stop.WorkStop.{WorkStop}

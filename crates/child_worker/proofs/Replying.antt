@@ -1,7 +1,7 @@
 -- Replies from their parts.
-use Rattle.std.proofs.Common.{◌≡◌, ℕ, ℤ, List, refl}
+use Rattle.std.proofs.Common.{◌≡◌, ℕ, ℤ, List}
 use Rattle.hash_family.specs.Setting.{Setting}
-use Rattle.reply_format.specs.Reply.{Replay, Reply, head_of}
+use Rattle.reply_format.specs.Reply.{Replay, head_of}
 use Rattle.reply_format.specs.declared.heap.Heap.{Heap}
 
 -- replay replies with the same parts

@@ -1,5 +1,5 @@
 -- Levels that sketch the items of a job, from its head on.
-use Rattle.std.proofs.Common.{◌≡◌, ℕ, ◌+◌, ◌≤◌, List, [], ◌++◌, length, Option, Some, None, sym, ◌∙◌, ap, subst, arith, refl, length-append, take}
+use Rattle.std.proofs.Common.{◌≡◌, ℕ, ◌+◌, ◌≤◌, List, [], ◌++◌, length, Option, Some, None, sym, ◌∙◌, subst, arith, refl, length-append, take}
 use Rattle.child_jobs.specs.Heads.{Head, ReplayHead, SolveHead, head_of}
 use Rattle.child_jobs.specs.declared.head.JobHead.{JobHead}
 use Rattle.child_jobs.specs.declared.head.JobKind.TheVariants as kinds
@@ -16,7 +16,7 @@ use Rattle.child_jobs.specs.Reader.{HasTaken, known_head, lent}
 use Rattle.child_worker.specs.Work.{HasWorked, LagsBehind, Sketches, Stays}
 use Rattle.child_worker.specs.declared.work.Work.{Work}
 use Rattle.child_jobs.specs.declared.reader.JobReader.{JobReader}
-use Rattle.child_worker.proofs.Feeding.{AreFed, fed-none, weight_of-fed}
+use Rattle.child_worker.proofs.Feeding.{fed-none, weight_of-fed}
 
 -- levels for the head of a replay job, to which nothing was fed
 pub sketched_first : (head : JobHead) (params : Params) (levels : View) → head.kind ≡ kinds.Replay params

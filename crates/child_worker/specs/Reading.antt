@@ -1,5 +1,5 @@
 -- How reading a job from an input ends.
-use Rattle.std.specs.Prelude.{◌≡◌, ◌≤◌, ℕ, List, [], Option, Result, Ok, Err}
+use Rattle.std.specs.Prelude.{ℕ, List, Option, Result, Ok, Err}
 use Rattle.mon_io.specs.Faults.{Rose}
 use Rattle.mon_io.specs.Inputs.{InputState, IsOver, IsRestOf, Took}
 use Rattle.child_worker.specs.Child.{IsMisspelled, IsReplied}

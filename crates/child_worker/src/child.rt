@@ -77,7 +77,11 @@ fn buffer_of(alloc: Global) -> Result<Vec<u8>, AllocError>
 }
 
 // Takes all that is left of the picked input, through a buffer. No run uses up the number of pieces.
-fn read_job<I: Inputs>(inputs: &mut I, work: &mut Work, buffer: &mut [u8]) -> Result<(), ChildStatus>
+fn read_job<I: Inputs>(
+    inputs: &mut I,
+    work: &mut Work,
+    buffer: &mut [u8],
+) -> Result<(), ChildStatus>
     requires room { 0 < length buffer.old }
     requires start { HasWorked work.old [] }
     ensures reads { ReadsAll (I.state inputs.old) (I.state inputs.new) work.new result }

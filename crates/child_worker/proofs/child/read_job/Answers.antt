@@ -1,4 +1,4 @@
-use Rattle.std.proofs.Common.{◌≡◌, List, ℕ, take, ◌∙◌}
+use Rattle.std.proofs.Common.{take, ◌∙◌}
 use Rattle.child_worker.proofs.Readings.{read_on, stopped_within}
 use Rattle.child_worker.proofs.child.read_job.Goals as goal
 

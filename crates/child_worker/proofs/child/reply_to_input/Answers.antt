@@ -1,4 +1,3 @@
-use Rattle.std.proofs.Common.{◌≡◌, List, ℕ}
 use Rattle.child_worker.proofs.Readings.{replied, stopped_behind}
 use Rattle.child_worker.proofs.child.reply_to_input.Goals as goal
 

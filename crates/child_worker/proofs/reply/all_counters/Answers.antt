@@ -1,4 +1,4 @@
-use Rattle.std.proofs.Common.{◌≡◌, ℕ, ◌+◌, ◌*◌, length, length-append, ◌∙◌, ap, sym, subst, arith, List, ℤ, ◌++◌}
+use Rattle.std.proofs.Common.{◌≡◌, ℕ, ◌+◌, length, length-append, ◌∙◌, ap, sym, subst, arith, List, ℤ, ◌++◌}
 use Rattle.std.specs.List.{flat_map, range_with_len}
 use Rattle.count_sketch.specs.Counters.{AllUpTo}
 use Rattle.hash_family.specs.Setting.{Setting}
@@ -11,8 +11,7 @@ loop-level-preserved c =
     let so_far = c.loop-level.invariant in
     let own = c.counters.ensures in
     let setting = c.args.levels.now.setting in
-    let added = c.in-Ok.ensures.items in
-    (
+    let added = c.in-Ok.ensures.items in (
       λ items holds.
           let f = level_counters setting items in
           let sides : c.loop-level.counters.items ++ c.counters.result.now
@@ -29,7 +28,11 @@ unfolding all_counters
 returns-clause-list c = λ items holds.
     let f = level_counters c.args.levels.now.setting items in
     let all : c.loop-level.level ≡ c.args.levels.now.setting.levels + 1 =
-    omega (arith, c.loop-level.auto.level-end, c.loop-level-test.false,
-    ap (λ (s : Setting). s.levels) c.params.ensures.value) in
+    omega (
+      arith,
+      c.loop-level.auto.level-end,
+      c.loop-level-test.false,
+      ap (λ (s : Setting). s.levels) c.params.ensures.value,
+    ) in
     c.from_vec.ensures ∙ c.loop-level.invariant.0 items holds
     ∙ ap (λ (n : ℕ). flat_map f (range_with_len 0 n)) all

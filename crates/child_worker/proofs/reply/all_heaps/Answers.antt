@@ -1,4 +1,4 @@
-use Rattle.std.proofs.Common.{◌≡◌, ℕ, ◌+◌, ◌*◌, length, length-append, ◌∙◌, ap, sym, subst, arith, List, ◌++◌, ◌∷◌, [], map}
+use Rattle.std.proofs.Common.{◌≡◌, ℕ, ◌+◌, length, length-append, ◌∙◌, ap, sym, subst, arith, List, ◌++◌, ◌∷◌, [], map}
 use Rattle.std.specs.List.{All, range_with_len}
 use Rattle.std.proofs.lemmas.List.Elements.{All-push}
 use Rattle.std.proofs.lemmas.List.FromFn.{map-range_with_len_more}
@@ -13,8 +13,7 @@ loop-level-preserved c =
     let so_far = c.loop-level.invariant in
     let own = c.in_ok-heap.ensures in
     let setting = c.args.levels.now.setting in
-    let added = c.in-Ok.ensures.ok in
-    (
+    let added = c.in-Ok.ensures.ok in (
       λ items holds.
           let f = level_heap setting items in
           let sides : c.loop-level.heaps ++ c.in_ok-heap.heap ∷ []
@@ -33,6 +32,10 @@ unfolding all_heaps
 returns-clause-list c = λ items holds.
     let f = level_heap c.args.levels.now.setting items in
     let all : c.loop-level.level ≡ c.args.levels.now.setting.levels + 1 =
-    omega (arith, c.loop-level.auto.level-end, c.loop-level-test.false,
-    ap (λ (s : Setting). s.levels) c.params.ensures.value) in
+    omega (
+      arith,
+      c.loop-level.auto.level-end,
+      c.loop-level-test.false,
+      ap (λ (s : Setting). s.levels) c.params.ensures.value,
+    ) in
     c.loop-level.invariant.0 items holds ∙ ap (λ (n : ℕ). map f (range_with_len 0 n)) all

@@ -1,4 +1,4 @@
-use Rattle.std.proofs.Common.{ℕ, List, below_more, get_or, subst, ◌<◌, length, ◌∙◌}
+use Rattle.std.proofs.Common.{ℕ, below_more, get_or, subst, ◌∙◌}
 use Rattle.std.proofs.lemmas.List.{get_or_default}
 use Rattle.flow_keys.specs.Key.{IsKey}
 use Rattle.child_worker.proofs.reply.check_keys.Goals as goal

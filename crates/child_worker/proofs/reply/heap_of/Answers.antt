@@ -1,4 +1,4 @@
-use Rattle.std.proofs.Common.{◌≡◌, length, ◌∙◌, ap, sym, List, true}
+use Rattle.std.proofs.Common.{length, ◌∙◌, ap, sym}
 use Rattle.sketch_levels.specs.Items.{live_items}
 use Rattle.child_worker.proofs.Filled.{filled}
 use Rattle.child_worker.proofs.reply.heap_of.Goals as goal

@@ -1,7 +1,4 @@
-use Rattle.std.proofs.Common.{◌≡◌, ◌<◌, ◌^◌, arith, ℕ, ℤ, ◌+◌, length, ◌∙◌, ap, sym, List, true, refl}
-use Rattle.hash_family.specs.Setting.{Setting}
-use Rattle.reply_format.specs.Reply as replies
-use Rattle.reply_format.specs.declared.heap.Heap.{Heap}
+use Rattle.std.proofs.Common.{◌<◌, ◌^◌, arith, ◌∙◌}
 use Rattle.child_worker.proofs.Feeding.{weight_of-fed}
 use Rattle.child_worker.proofs.Gathering.{are_counters}
 use Rattle.child_worker.proofs.Replying.{same_reply}

@@ -7,9 +7,11 @@ returns-in-Some-levels-clause-replies c =
     let levels = c.in-Some-levels.levels in
     if_ok_so _ _ c.replay_reply.result (λ reply says bytes ended.
     let end = ended_replay levels c.args.items c.in-Some.head.job c.in-Some.head.kind bytes
-    (rw (c.in-Some.is, c.in-Replay.is, c.in-Some-levels.is) at ended) in
-    (Replay (record { number = c.in-Some.head.job; setting = levels.setting; items = end.given }), end.spelled,
-    says end.given end.sketch)) c.replay_reply.ensures.reply
+    (rw (c.in-Some.is, c.in-Replay.is, c.in-Some-levels.is) at ended) in (
+      Replay (record { number = c.in-Some.head.job; setting = levels.setting; items = end.given }),
+      end.spelled,
+      says end.given end.sketch,
+    )) c.replay_reply.ensures.reply
 
 pub returns-in-Solve-clause-replies : goal.returns-in-Solve-clause-replies
 returns-in-Solve-clause-replies c =

@@ -1,5 +1,3 @@
-use Rattle.std.proofs.Common.{◌≡◌, ◌+◌, ◌<◌, List, length, sym, subst, get_or}
-use Rattle.job_format.specs.declared.item.Item.{Item}
 use Rattle.child_worker.proofs.Feeding.{fed_more_is}
 use Rattle.child_worker.proofs.work.feed_all.Goals as goal
 

@@ -13,8 +13,7 @@ pub returns-in-Ok-bytes_of-clause-answers : goal.returns-in-Ok-bytes_of-clause-a
 returns-in-Ok-bytes_of-clause-answers c = λ bytes worked.
     let ended = finished c.args.self _ c.in-Ok.end bytes worked c.head-head.ensures.value
     (c.in-Ok.ensures.end bytes worked.given worked.taken) in
-    let reply = c.in-Ok-reply_to.ensures.replies bytes ended in
-    (
+    let reply = c.in-Ok-reply_to.ensures.replies bytes ended in (
       reply.0,
       reply.1,
       answered reply.0 (reply_of c.in-Ok-reply_to.reply) c.in-Ok-bytes_of.bytes.items reply.2

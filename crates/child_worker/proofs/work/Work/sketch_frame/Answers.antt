@@ -1,4 +1,4 @@
-use Rattle.std.proofs.Common.{◌≡◌, ◌+◌, ◌≤◌, List, length, ◌++◌, length-append, arith, rules, subst, sym, ap}
+use Rattle.std.proofs.Common.{◌+◌, ◌≤◌, List, length, ◌++◌, length-append, arith, rules, subst}
 use Rattle.std.proofs.Common.{refl}
 use Rattle.job_format.specs.declared.item.Item.{Item}
 use Rattle.child_worker.specs.Work.{Sketches}

@@ -1,7 +1,3 @@
-use Rattle.std.proofs.Common.{◌≡◌, ℕ, ◌++◌, List, take, subst, sym, ap}
-use Rattle.job_format.specs.declared.item.Item.{Item}
-use Rattle.child_jobs.specs.Reader.{HasTaken, known_head, lent}
-use Rattle.child_worker.specs.Work.{HasWorked, LagsBehind}
 use Rattle.child_worker.proofs.Sketching.{lagging}
 use Rattle.child_worker.proofs.work.Work.step.Goals as goal
 

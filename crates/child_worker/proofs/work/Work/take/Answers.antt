@@ -1,6 +1,5 @@
-use Rattle.std.proofs.Common.{◌≡◌, ℕ, ◌+◌, ◌≤◌, ◌++◌, List, length, take, drop, subst, sym, ap, arith}
+use Rattle.std.proofs.Common.{◌≤◌, length, drop, sym, arith}
 use Rattle.std.proofs.lemmas.List.{length-drop, take_rest}
-use Rattle.child_worker.specs.Work.{HasWorked, StopsAt}
 use Rattle.child_worker.proofs.Pieces.{followed_on, taken_on}
 use Rattle.child_worker.proofs.work.Work.take.Goals as goal
 
@@ -15,8 +14,7 @@ returns-in-Err-clause-breach c = λ bytes rest worked.
 pub loop-start-preserved : goal.loop-start-preserved
 loop-start-preserved c =
     let e = c.in-Ok.ensures in
-    let bound : c.in-Ok.count ≤ length (drop c.loop-start.start c.args.piece.now) = rw take_rest at e.bound in
-    (
+    let bound : c.in-Ok.count ≤ length (drop c.loop-start.start c.args.piece.now) = rw take_rest at e.bound in (
       omega (arith, bound, length-drop c.loop-start.start c.args.piece.now, c.loop-start.invariant.0),
       λ bytes worked.
           let k = e.takes _ (c.loop-start.invariant.1 bytes worked) in
