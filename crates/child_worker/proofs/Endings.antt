@@ -99,7 +99,8 @@ answered (Solve job) reply bytes is within written = (
 )
 
 -- what holds of what was given, where more follows of it
-pub if_ok_so : {T E : Type 0} (P Q : T → Type 0) (result : Result T E) → ((x : T) → P x → Q x) → IfOk result P → IfOk result Q
+pub if_ok_so : {T E : Type 0} (P Q : T → Type 0) (result : Result T E) → ((x : T) → P x → Q x)
+    → IfOk result P → IfOk result Q
 if_ok_so P Q (Ok x) so holds = so x holds
 if_ok_so P Q (Err e) so holds = tt
 

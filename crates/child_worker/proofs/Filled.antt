@@ -109,7 +109,8 @@ filled_push setting level items item before now =
           let full = before dropped in
           push ∙ filled_by setting level items item s (omega (arith, full, more)) (omega (arith, full))
       | inr none ↦
-          let either = or_cases (is_dropped setting items) (nat_lt setting.heap (length (with_score entries item.key s)))
+          let either = or_cases (is_dropped setting items)
+          (nat_lt setting.heap (length (with_score entries item.key s)))
           (sym (is_dropped-push setting level items item s) ∙ now) in
           elim either [
             | inl dropped ↦ absurd (both_ways _ none dropped)

@@ -61,7 +61,8 @@ pub record IsSketchOf (levels : View) (count : ℕ) (items : List Item) : Type 0
   pub counted : count ≡ length items
 
 -- the end of a job with this head and these items, which levels hold, where there are any
-pub record IsEnded (levels : Option View) (count : ℕ) (head : Option Head) (end : JobEnd) (bytes : List ℕ) : Type 0 where
+pub record IsEnded (levels : Option View) (count : ℕ) (head : Option Head) (end : JobEnd) (bytes : List ℕ)
+    : Type 0 where
   pub given : List Item
   pub sketched : Sketches levels head given
   pub counted : count ≡ length given

@@ -13,8 +13,9 @@ use std::alloc::{AllocError, Global};
 // The input is read in pieces of at most so many bytes.
 const PIECE: usize = 65_536;
 
-/// Reads a job from standard input to its end, and writes its reply. For a replay job it holds one frame of the job at a
-/// time; memory is taken once the head is read and again once the input has ended, and none between.
+/// Reads a job from standard input to its end, and writes its reply. For a replay job it holds one frame of the job at
+/// a time; memory is taken before the first read, once the head is read and again once the input has ended, and none
+/// between.
 pub fn answer<I: Inputs, K: Sink>(alloc: Global, inputs: &mut I, sink: &mut K) -> ChildStatus
     ensures ends { Ends ((I.state inputs.old).contents (codes "-")) (I.state inputs.old) (I.state inputs.new)
         (K.state sink.old) (K.state sink.new) result }

@@ -74,7 +74,8 @@ fn solve_reply(alloc: Global, job: u32, problem: &Problem, nodes: u32) -> Result
 // The reply to a replay job of this number and so many items, which the levels hold.
 fn replay_reply(alloc: Global, job: u32, levels: &Levels, items: u32) -> Result<Reply, Memory>
     ensures reply { IfOk result (λ reply. (given : List AnItem) → IsSketchOf levels.now items given
-        → reply_of reply ≡ replies.Replay (replay_reply (record { number = job; setting = levels.now.setting; items = given }))) }
+        → reply_of reply
+        ≡ replies.Replay (replay_reply (record { number = job; setting = levels.now.setting; items = given }))) }
     ensures within { IfOk result (λ reply. (given : List AnItem) → IsSketchOf levels.now items given
         → IsReply (reply_of reply)) }
 {

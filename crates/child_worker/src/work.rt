@@ -1,17 +1,16 @@
 //! Work on one job, whose bytes come in pieces.
-ghost use Rattle.std.specs.Prelude.{◌≡◌, ◌≤◌, ◌<◌, ◌++◌, ◌+◌, ◌^◌, ℕ, List, [], length, take, IfOk, IfErr, OnOk, None, Some};
-ghost use Rattle.job_format.specs.declared.item.Item.{Item as AnItem};
+ghost use Rattle.std.specs.Prelude.{◌≡◌, ◌≤◌, ◌<◌, ◌⊎◌, ◌++◌, ◌+◌, ℕ, List, [], Option, None, Some, length, take};
+ghost use Rattle.std.specs.Prelude.{IfSome, IfOk, IfErr, OnOk};
 ghost use Rattle.std.specs.Option.{option_map};
-ghost use Rattle.std.specs.Prelude.{IfSome, Option, ◌⊎◌};
-ghost use Rattle.job_format.specs.Read.{BreaksJob};
-ghost use Rattle.job_format.specs.declared.fault.JobFault.TheVariants as faults;
-ghost use Rattle.child_worker.specs.Replies.{AnswersBytes};
 ghost use Rattle.child_jobs.specs.Heads.{Head, head_of};
 ghost use Rattle.child_jobs.specs.Reader.{known_head};
-ghost use Rattle.child_worker.specs.Work.{Sketches, StopsAt};
-ghost use Rattle.child_worker.specs.Replies.{fed};
 ghost use Rattle.job_format.specs.Job.{weight_limit, weight_of};
+ghost use Rattle.job_format.specs.Read.{BreaksJob};
+ghost use Rattle.job_format.specs.declared.fault.JobFault.TheVariants as faults;
+ghost use Rattle.job_format.specs.declared.item.Item.{Item as AnItem};
 ghost use Rattle.sketch_levels.specs.Levels.{Holds};
+ghost use Rattle.child_worker.specs.Replies.{AnswersBytes, fed};
+ghost use Rattle.child_worker.specs.Work.{Sketches, StopsAt};
 
 use crate::WorkStop;
 use crate::reply::{bytes_of, reply_to};
@@ -48,7 +47,8 @@ impl Work {
     /// Takes a piece of the job whole. It takes memory once the head of a replay job is there.
     pub(crate) fn take(&mut self, piece: &[u8]) -> Result<(), WorkStop>
         requires work { IsWork self.old }
-        ensures takes { OnOk result ((bytes : List ℕ) → HasWorked self.old bytes → HasWorked self.new (bytes ++ piece.now)) }
+        ensures takes { OnOk result ((bytes : List ℕ) → HasWorked self.old bytes
+            → HasWorked self.new (bytes ++ piece.now)) }
         ensures breach { IfErr result (λ stop. (bytes rest : List ℕ) → HasWorked self.old bytes
             → StopsAt (bytes ++ (piece.now ++ rest)) stop) }
     {
@@ -66,7 +66,8 @@ impl Work {
     /// job, or `Memory`. It takes memory.
     pub(crate) fn finish(self) -> Result<Vec<u8>, WorkStop>
         requires work { IsWork self }
-        ensures answers { IfOk result (λ reply. (bytes : List ℕ) → HasWorked self bytes → AnswersBytes bytes reply.items) }
+        ensures answers { IfOk result (λ reply. (bytes : List ℕ) → HasWorked self bytes
+            → AnswersBytes bytes reply.items) }
         ensures breach { IfErr result (λ stop. (bytes : List ℕ) → HasWorked self bytes → StopsAt bytes stop) }
     {
         let Work {
@@ -112,8 +113,9 @@ impl Work {
 
     // Makes levels where there are none and the head of a replay job is there.
     fn open(&mut self) -> Result<(), Memory>
-        ensures opens { OnOk result ((before : Option Head) (given : List AnItem) → Stays before (known_head self.old.reader)
-            → Sketches self.old.levels before given → Sketches self.new.levels (known_head self.old.reader) given) }
+        ensures opens { OnOk result ((before : Option Head) (given : List AnItem)
+            → Stays before (known_head self.old.reader) → Sketches self.old.levels before given
+            → Sketches self.new.levels (known_head self.old.reader) given) }
         ensures reader { self.new.reader ≡ self.old.reader }
         ensures items { self.new.items ≡ self.old.items }
     {
@@ -187,7 +189,8 @@ fn feed_any(levels: &mut Option<Levels>, items: &[Item])
 fn feed_all(levels: &mut Levels, items: &[Item])
     requires light { levels.old.weight + weight_of items.now ≤ weight_limit }
     ensures setting { levels.new.setting ≡ levels.old.setting }
-    ensures list { (before : List AnItem) → Holds levels.old (fed before) → Holds levels.new (fed (before ++ items.now)) }
+    ensures list { (before : List AnItem) → Holds levels.old (fed before)
+        → Holds levels.new (fed (before ++ items.now)) }
 {
     for item in items {
         levels.feed(&item.key, item.weight);

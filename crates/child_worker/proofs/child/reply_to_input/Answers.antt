@@ -3,8 +3,10 @@ use Rattle.child_worker.proofs.child.reply_to_input.Goals as goal
 
 pub returns-in-Ok-finish-clause-replies : goal.returns-in-Ok-finish-clause-replies
 returns-in-Ok-finish-clause-replies g c =
-    let all = c.in-Ok-read_job.ensures.reads in
-    (all.over, replied c.in-Ok-finish.reply.items all.took all.over (c.in-Ok-finish.ensures.answers all.bytes all.worked))
+    let all = c.in-Ok-read_job.ensures.reads in (
+      all.over,
+      replied c.in-Ok-finish.reply.items all.took all.over (c.in-Ok-finish.ensures.answers all.bytes all.worked),
+    )
 
 pub returns-clause-replies : goal.returns-clause-replies
 returns-clause-replies g c =

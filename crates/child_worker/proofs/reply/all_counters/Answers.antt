@@ -19,7 +19,12 @@ loop-level-preserved c =
           cc (so_far.0 items holds, own.list items holds) in
           added ∙ sides ∙ sym (flat_map_more f c.loop-level.level),
       ap length added
-          ∙ rw length-append (omega (arith, so_far.1, own.shape, rows_more c.loop-level.level setting.rows setting.width)),
+          ∙ rw length-append (omega (
+            arith,
+            so_far.1,
+            own.shape,
+            rows_more c.loop-level.level setting.rows setting.width,
+          )),
       subst (λ (xs : List ℤ). AllUpTo c.args.levels.now.weight xs) (sym added) (up_to_both _ _ _ so_far.2 own.bound),
     )
 

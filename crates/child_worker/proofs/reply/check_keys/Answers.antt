@@ -8,4 +8,5 @@ loop-key-preserved c = λ k d.
     below_more (λ (j : ℕ). IsKey (get_or c.args.keys.now j d)) c.loop-key.key-index
     (λ j under. c.loop-key.invariant j d under)
     (subst IsKey (c.key-item.is
-    ∙ get_or_default c.args.keys.now c.loop-key.key-index c.key-item.result d c.loop-key-test.true) c.words.ensures.valid) k
+    ∙ get_or_default c.args.keys.now c.loop-key.key-index c.key-item.result d c.loop-key-test.true)
+    c.words.ensures.valid) k

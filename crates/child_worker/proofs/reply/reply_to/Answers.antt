@@ -17,6 +17,9 @@ pub returns-in-Solve-clause-replies : goal.returns-in-Solve-clause-replies
 returns-in-Solve-clause-replies c =
     if_ok_so _ _ c.solve_reply.result (λ reply says bytes ended.
     let spelled = ended_solve c.args.levels c.args.items c.in-Some.head.job c.in-Some.head.kind c.in-Solve.nodes
-    c.in-Solve.problem bytes (rw (c.in-Some.is, c.in-Solve.is) at ended) in
-    (Solve (record { number = c.in-Some.head.job; nodes = c.in-Solve.nodes; problem = c.in-Solve.problem }), spelled, says))
+    c.in-Solve.problem bytes (rw (c.in-Some.is, c.in-Solve.is) at ended) in (
+      Solve (record { number = c.in-Some.head.job; nodes = c.in-Solve.nodes; problem = c.in-Solve.problem }),
+      spelled,
+      says,
+    ))
     c.solve_reply.ensures.reply

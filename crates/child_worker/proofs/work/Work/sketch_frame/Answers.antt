@@ -10,7 +10,8 @@ pub feed_any-requires : goal.feed_any-requires
 feed_any-requires c =
     let lags = c.requires.lags.1 in
     record {
-      light = rw c.frame-frame.ensures.value (light_on c.args.self.now.levels (known_head c.args.self.now.reader) lags.given
+      light = rw c.frame-frame.ensures.value (light_on c.args.self.now.levels
+          (known_head c.args.self.now.reader) lags.given
           (lent c.args.self.now.reader) (c.frame-frame.ensures.light _ _ lags.taken).0 lags.sketched);
     }
 
@@ -19,7 +20,8 @@ overflow_add-self c =
     let lags = c.requires.lags.1 in
     let few = (c.frame-frame.ensures.light _ _ lags.taken).1 in
     let both = length-append lags.given (lent c.args.self.now.reader) in
-    let sum : c.args.self.now.items + length (lent c.args.self.now.reader) ≤ 1048576 = omega (arith, few, both, lags.counted) in
+    let sum : c.args.self.now.items + length (lent c.args.self.now.reader) ≤ 1048576 =
+    omega (arith, few, both, lags.counted) in
     rw c.frame-frame.ensures.value (search rules)
 
 pub returns : goal.returns

@@ -9,7 +9,8 @@ sketch_frame-requires c = record {
   lags = (
     _,
     lagging c.args.self.now c.open.new.self c.feed.new.self _ c.args.piece.now c.in-Ok.count c.requires.work.1
-        c.in-Ok.ensures.takes c.in-Ok.ensures.head c.open.ensures.reader c.open.ensures.items c.in-Ok-open.ensures.opens,
+        c.in-Ok.ensures.takes c.in-Ok.ensures.head c.open.ensures.reader c.open.ensures.items
+        c.in-Ok-open.ensures.opens,
   );
 }
 
