@@ -1,2 +1,4 @@
 pub mod Child
+pub mod Reading
 pub mod Replies
+pub mod Work

@@ -1,5 +1,5 @@
 -- Which bytes answer a job.
-use Rattle.std.specs.Prelude.{◌+◌, ℕ, ℤ, List, length, map, IsTrue}
+use Rattle.std.specs.Prelude.{ℕ, ℤ, List, length, map, IsTrue}
 use Rattle.std.specs.List.{flat_map, range_with_len}
 use Rattle.bound_certificate.specs.Outcome.{is_right}
 use Rattle.bound_certificate.specs.declared.outcome.Outcome.{Outcome}

@@ -1,6 +1,8 @@
 //! Jobs answered in memory.
 ghost use Rattle.std.specs.Prelude.{◌≡◌, true};
 
+use crate::WorkStop;
+use crate::work::reply_bytes;
 use crew::{AnswerStop, Answerer};
 use std::alloc::Global;
 
@@ -32,8 +34,17 @@ impl Answerer for WorkerAnswer {
 
     /// `Fault` comes exactly where the bytes spell no job.
     fn answer(&mut self, job: &[u8], out: &mut Vec<u8>) -> Result<(), AnswerStop> {
-        let _ = (self.alloc, job.len());
         out.clear();
-        Err(AnswerStop::Memory)
+        match reply_bytes(self.alloc, job) {
+            Ok(bytes) => {
+                *out = bytes;
+                Ok(())
+            }
+            Err(WorkStop::Fault(_)) => {
+                self.faults = self.faults.saturating_add(1);
+                Err(AnswerStop::Fault)
+            }
+            Err(WorkStop::Memory) => Err(AnswerStop::Memory),
+        }
     }
 }

@@ -3,6 +3,4 @@ use Rattle.child_jobs.proofs.Taken.{starts}
 use Rattle.child_jobs.proofs.reader.JobReader.new.Goals as goal
 
 pub returns-clause-start : goal.returns-clause-start
-returns-clause-start c = record {
-  start = starts _ refl c.first_place.ensures refl refl (search rules) (search rules) (search rules);
-}
+returns-clause-start c = starts _ refl c.first_place.ensures refl refl (search rules) (search rules) (search rules)
