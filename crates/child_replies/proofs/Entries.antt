@@ -6,7 +6,7 @@ use Rattle.bound_certificate.proofs.Below.{range_with_len-more}
 use Rattle.std.proofs.Math.Nat.{le_refl}
 use Rattle.std.specs.Ordering.{int_eq}
 use Rattle.byteorder.specs.Endian.{little_bytes}
-use Rattle.child_replies.specs.Nonzero.{is_nonzero}
+use Rattle.lane_kernels.specs.Nonzero.{is_nonzero}
 use Rattle.reply_format.specs.Reply.{counter_bytes, entries_bytes, row_at, row_bytes, sparse_bytes}
 
 not_false : (b : Bool) → not b ≡ false → b ≡ true

@@ -1,5 +1,4 @@
 pub mod Fields
 pub mod Heads
-pub mod Nonzero
 pub mod Solved
 pub mod Steps

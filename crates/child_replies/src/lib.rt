@@ -5,7 +5,7 @@
 //!   - `replay_job`, `head_field`, `head`, `counter`, `counters`, `heaps`, `read_replay`: a replay reply, part by part
 //!   - `solve_front`, `found`, `read_solve`: a solve reply
 //! - `write`: `write_reply`, in version 2, which leaves out the counters that are 0
-//!   - `write_head`, `write_row`, `write_heap`, `write_replay`, `write_solve`: its parts; `scan`: which counters aren't 0
+//!   - `write_head`, `write_row`, `write_heap`, `write_replay`, `write_solve`: its parts
 //!
 //! `specs/Steps.antt` says how reading goes on from field to field, over the places of the format, and where it stops.
 //! Both take memory.
@@ -23,7 +23,6 @@ mod read;
 mod read_replay;
 mod read_solve;
 mod replay_job;
-mod scan;
 mod solve_front;
 mod write;
 mod write_head;

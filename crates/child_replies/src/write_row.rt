@@ -3,7 +3,7 @@ ghost use Rattle.std.specs.Prelude.{◌≡◌, ◌≤◌, ◌<◌, ◌+◌, ◌*
 ghost use Rattle.byteorder.specs.Endian.{little_bytes};
 ghost use Rattle.reply_format.specs.Reply.{counter_bytes, entries_bytes, nonzero_count, row_at, row_bytes, sparse_bytes};
 
-use crate::scan::{next_nonzero, nonzero};
+use lane_kernels::{next_nonzero, nonzero};
 use mon_io::Memory;
 
 /// Appends the counters, row by row.
