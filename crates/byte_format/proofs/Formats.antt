@@ -1,8 +1,9 @@
 -- What holds of every format: one outcome, and the same for every cutting.
-use Rattle.std.proofs.Common.{◌≡◌, ◌<◌, ℕ, ◌+◌, List, [], ◌∷◌, ◌++◌, length, Result, Ok, Err, refl, sym, ◌∙◌, ap, subst, arith, append_assoc, append-nil, length-append, inl, inr}
+use Rattle.std.proofs.Common.{◌≡◌, ◌<◌, ℕ, ◌+◌, List, [], ◌∷◌, ◌++◌, length, All, Result, Ok, Err, refl, sym, ◌∙◌, ap, subst, arith, append_assoc, append-nil, length-append, inl, inr}
 use Rattle.std.specs.List.{concat}
 use Rattle.std.proofs.lemmas.Bool.{cases_lt}
 use Rattle.std.proofs.lemmas.Bool.Decides.{nat_tests}
+use Rattle.std.proofs.lemmas.List.{get_or_append_left, get_or-append-add}
 use Rattle.byte_format.specs.Format.{Format, Stand, EndsInside, Breaks, Reached, At, Broken, judged, onward, reached}
 
 -- bytes in two pieces
@@ -183,3 +184,30 @@ pub reached_says : {S F : Type 0} (g : Format S F) (Says : S → List ℕ → Ty
 reached_says g Says takes keeps start place bytes part says is =
     let ends : EndsInside g start bytes place part = subst (λ r. Leads g start bytes r) is (leads g takes start bytes) in
     (concat ends.fields, (ends.parts, stand_says g Says keeps start place ends.fields [] ends.stand says))
+
+-- what holds of each of two lists in one
+pub all_left : {X : Type 0} (P : X → Type 0) (xs ys : List X) → All P (xs ++ ys) → All P xs
+all_left P xs ys all k d here =
+    subst P (get_or_append_left xs ys d k here) (all k d (omega (arith, here, length-append xs ys)))
+
+pub all_right : {X : Type 0} (P : X → Type 0) (xs ys : List X) → All P (xs ++ ys) → All P ys
+all_right P xs ys all k d here =
+    subst P (get_or-append-add xs ys k d) (all (length xs + k) d (omega (arith, here, length-append xs ys)))
+
+-- the same, where each field is bytes
+pub record KeepsBytes {S F : Type 0} (g : Format S F) (Says : S → List ℕ → Type 0) : Type 0 where
+  pub on : (s t : S) (front field : List ℕ) → Says s front → All (λ byte. byte < 256) field → length field ≡ g.size s → g.judge s field ≡ Ok t → Says t (front ++ field)
+
+pub stand_says_bytes : {S F : Type 0} (g : Format S F) (Says : S → List ℕ → Type 0) → KeepsBytes g Says → (s t : S) (fields : List (List ℕ)) (front : List ℕ) → Stand g s fields t → All (λ byte. byte < 256) (concat fields) → Says s front → Says t (front ++ concat fields)
+stand_says_bytes g Says keeps s t [] front is low says = subst (λ u. Says u (front ++ [])) is (subst (λ (l : List ℕ). Says s l) (sym (append-nil front)) says)
+stand_says_bytes g Says keeps s t (f ∷ fs) front (whole, (u, (ok, stand))) low says =
+    let first : All (λ byte. byte < 256) f = all_left (λ byte. byte < 256) f (concat fs) low in
+    let others : All (λ byte. byte < 256) (concat fs) = all_right (λ byte. byte < 256) f (concat fs) low in
+    subst (λ (l : List ℕ). Says t l) (append_assoc front f (concat fs)) (stand_says_bytes g Says keeps u t fs (front ++ f) stand others (keeps.on s u front f says first whole ok))
+
+pub reached_says_bytes : {S F : Type 0} (g : Format S F) (Says : S → List ℕ → Type 0) → TakesBytes g → KeepsBytes g Says → (start place : S) (bytes part : List ℕ) → All (λ byte. byte < 256) bytes → Says start [] → reached g (At start []) bytes ≡ At place part
+    → (front : List ℕ) × ((bytes ≡ front ++ part) × Says place front)
+reached_says_bytes g Says takes keeps start place bytes part low says is =
+    let ends : EndsInside g start bytes place part = subst (λ r. Leads g start bytes r) is (leads g takes start bytes) in
+    let all : All (λ byte. byte < 256) (concat ends.fields) = all_left (λ byte. byte < 256) (concat ends.fields) part (subst (All (λ byte. byte < 256)) ends.parts low) in
+    (concat ends.fields, (ends.parts, stand_says_bytes g Says keeps start place ends.fields [] ends.stand all says))

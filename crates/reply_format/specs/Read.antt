@@ -1,5 +1,5 @@
 -- What bytes are read as, where a reply is expected: that reply, or the first breach.
-use Rattle.std.specs.Prelude.{◌≡◌, ◌<◌, ◌⊎◌, ℕ, Bool, true, false, List, [], ◌∷◌, ◌++◌, length, Result, Ok, Err}
+use Rattle.std.specs.Prelude.{◌≡◌, ◌<◌, ◌^◌, ◌⊎◌, ℕ, Bool, true, false, List, [], ◌∷◌, ◌++◌, length, Result, Ok, Err}
 use Rattle.bound_certificate.specs.declared.tree.Tree.{Tree}
 use Rattle.byte_format.specs.Format.{Breaks, EndsInside}
 use Rattle.certificate_text.specs.ReadBytes.{ReadsBytes}
@@ -67,8 +67,10 @@ found_bytes (solves.Placed sites) = 0 ∷ length sites ∷ sites
 found_bytes solves.Infeasible = 1 ∷ []
 found_bytes solves.Spent = 2 ∷ []
 
--- bytes begin with all that stands before the tree of a solve reply, and this is the rest, of which P holds
+-- bytes begin with all that stands before the tree of a solve reply, whose number fits its field, and this is the
+-- rest, of which P holds
 pub record HasRest (number : ℕ) (bytes : List ℕ) (P : List ℕ → Type 0) : Type 0 where
+  pub fits : number < 2 ^ 32
   pub version : ℕ
   pub known : IsVersion version
   pub found : Found

@@ -13,10 +13,12 @@ mod body;
 mod expect;
 mod fault;
 mod heap;
+mod laws;
 mod reply;
 
 pub use body::ReplayBody;
 pub use expect::Expect;
 pub use fault::ReplyFault;
 pub use heap::Heap;
+pub use laws::{one_reading, replies_are_read_back};
 pub use reply::Reply;
