@@ -1,8 +1,9 @@
 //! Jobs as bytes.
 ghost use Rattle.std.specs.Prelude.{◌≡◌, ◌≤◌, ◌++◌, List, ℕ, length, OnOk, OnErr};
 ghost use Rattle.hash_family.specs.Setting.{setting_of};
-ghost use Rattle.job_format.specs.Job.{IsJob, SpellsJob, frame_bytes, frame_limit, job_of, replay_head};
+ghost use Rattle.job_format.specs.Job.{IsJob, SpellsJob, SpellsSolve, frame_bytes, frame_limit, job_of, replay_head};
 
+use bound_certificate::Problem;
 use hash_family::Params;
 use job_format::{Item, Job};
 use mon_io::Memory;
@@ -11,6 +12,19 @@ use mon_io::Memory;
 pub fn write_job(job: &Job, out: &mut Vec<u8>) -> Result<(), Memory>
     requires within { IsJob (job_of job.now) }
     ensures written { OnOk result ((bytes : List ℕ) × SpellsJob (job_of job.now) bytes × (out.new.items ≡ out.old.items ++ bytes)) }
+    ensures refused { OnErr result (out.new.items ≡ out.old.items) }
+{
+    let _ = out.len();
+    Err(Memory)
+}
+
+/// Appends the spelling of a solve job: its number, the nodes of its search, and its problem. Unchanged on refusal. It
+/// takes memory.
+pub fn write_solve(job: u32, nodes: u32, problem: &Problem, out: &mut Vec<u8>) -> Result<(), Memory>
+    requires some { 1 ≤ nodes }
+    requires few { nodes ≤ 4096 }
+    ensures written { OnOk result ((bytes : List ℕ) × SpellsSolve (record { number = job; nodes = nodes; problem = problem.now }) bytes
+        × (out.new.items ≡ out.old.items ++ bytes)) }
     ensures refused { OnErr result (out.new.items ≡ out.old.items) }
 {
     let _ = out.len();
