@@ -1,5 +1,5 @@
 -- The bytes of a reply are below 256.
-use Rattle.std.proofs.Common.{◌≡◌, ◌<◌, ◌≤◌, ◌+◌, ◌/◌, ◌^◌, ◌&&◌, ℕ, get_or, zero, suc, true, List, [], ◌∷◌, ◌++◌, length, map, All, flat_map, inl, inr, sym, subst, arith, IsTrue, lit<}
+use Rattle.std.proofs.Common.{◌≡◌, ◌<◌, ◌≤◌, ◌+◌, ◌/◌, ◌^◌, ◌&&◌, ℕ, get_or, zero, suc, true, List, [], ◌∷◌, ◌++◌, length, map, All, inl, inr, sym, subst, arith, IsTrue, lit<}
 use Rattle.std.specs.Prelude.{nat_le, nat_lt}
 use Rattle.std.specs.Int.{w64, to_le_bytes, bytes_low_first, byte_at}
 use Rattle.std.specs.List.{AllByRecursion, concat, list_all}
@@ -17,7 +17,7 @@ use Rattle.bound_certificate.specs.declared.outcome.Outcome.TheVariants.{Placed,
 use Rattle.bound_certificate.specs.declared.tree.Tree.{Tree}
 use Rattle.certificate_text.specs.Bytes.{bytes_of, in_eights, part_bytes}
 use Rattle.certificate_text.proofs.RootFirst.{bytes_of-out}
-use Rattle.reply_format.specs.Reply.{HasWritten, IsVersion, IsWritten, SpellsReply, front_bytes, outcome_bytes}
+use Rattle.reply_format.specs.Reply.{HasWritten, IsVersion, SpellsReply, front_bytes, outcome_bytes}
 use Rattle.solve_jobs.specs.Replies.{reply_with}
 
 abbrev Low : ℕ → Type 0

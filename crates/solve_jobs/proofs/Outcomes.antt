@@ -1,5 +1,5 @@
 -- The outcome that was taken.
-use Rattle.std.proofs.Common.{◌≡◌, ℕ, true, List, [], ◌∷◌, Option, None, Some, Result, Ok, Err, refl, sym, ◌∙◌, ap, subst, IsTrue}
+use Rattle.std.proofs.Common.{◌≡◌, ℕ, true, List, Option, None, Some, Result, Ok, refl, sym, ap, subst, IsTrue}
 use Rattle.bound_certificate.specs.Outcome.{is_right}
 use Rattle.bound_certificate.specs.Problem.{Problem}
 use Rattle.bound_certificate.specs.declared.outcome.Outcome.{Outcome}

@@ -1,10 +1,8 @@
 -- What bytes are read as where a reply to job 0 is expected, and which are good.
-use Rattle.std.proofs.Common.{◌≡◌, ◌<◌, ◌↔◌, ◌==◌, ◌&&◌, ℕ, Bool, true, false, List, [], ◌∷◌, All, ◌⊎◌, inl, inr, Option, None, Some, Result, Ok, Err, refl, sym, ◌∙◌, ap, subst, IsTrue}
-use Rattle.std.specs.Prelude.{nat_lt}
+use Rattle.std.proofs.Common.{◌≡◌, ◌<◌, ◌↔◌, ◌==◌, ℕ, Bool, true, false, List, [], ◌∷◌, All, ◌⊎◌, inl, inr, None, Some, Result, Ok, Err, refl, sym, ◌∙◌, ap, subst}
 use Rattle.std.proofs.lemmas.Bool.{and_parts, eqb-true, eq-eqb, lt-ltb, true≢false}
 use Rattle.std.proofs.lemmas.List.Elements.{All-head, All-tail}
 use Rattle.std.specs.Cmp.Derive.{both_true}
-use Rattle.bound_certificate.specs.Outcome.{is_right}
 use Rattle.bound_certificate.specs.Problem.{Problem}
 use Rattle.bound_certificate.specs.declared.outcome.Outcome.{Outcome}
 use Rattle.reply_format.proofs.OneRead.{always_read, one_read}
@@ -15,7 +13,7 @@ use Rattle.reply_format.specs.declared.fault.ReplyFault.TheVariants.{Memory}
 use Rattle.reply_format.specs.declared.reply.Reply.{Reply as ReplyEnum}
 use Rattle.reply_format.specs.declared.reply.Reply.TheVariants as variants
 use Rattle.solve_jobs.specs.Reading.{are_bytes, low_bytes, read_where, reading, outcome_in, is_right_one, is_good}
-use Rattle.solve_jobs.specs.Replies.{IsReplyWith, IsRightReply, reply_with}
+use Rattle.solve_jobs.specs.Replies.{IsRightReply, reply_with}
 use Rattle.solve_jobs.proofs.Bytes.{spelled_low}
 
 are_low : (bytes : List ℕ) → All (λ byte. byte < 256) bytes → are_bytes bytes ≡ true

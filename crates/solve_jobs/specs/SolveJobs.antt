@@ -1,6 +1,5 @@
 -- What clauses see of the one job of a search.
-use Rattle.std.specs.Prelude.{◌≡◌, ◌<◌, ◌^◌, ℕ, ◌==◌, ◌&&◌, false, List, [], ◌∷◌, Option, Some, None, is_some, replicate, length}
-use Rattle.std.proofs.Common.{arith}
+use Rattle.std.specs.Prelude.{◌==◌, ◌&&◌, [], ◌∷◌, is_some}
 use Rattle.replay_supervisor.specs.Jobs.{JobsState, Places}
 use Rattle.solve_jobs.specs.Reading.{is_good}
 use Rattle.solve_jobs.specs.Search.{Holds}

@@ -1,5 +1,5 @@
 -- The laws of the one job of a search.
-use Rattle.std.proofs.Common.{◌≡◌, ◌<◌, ◌^◌, ℕ, Bool, false, List, [], ◌∷◌, Option, None, Some, is_some, replicate, length, refl, arith}
+use Rattle.std.proofs.Common.{◌≡◌, ◌<◌, ◌^◌, ℕ, false, [], ◌∷◌, Option, None, Some, is_some, replicate, length, refl, arith}
 use Rattle.std.proofs.lemmas.Bool.{true≢false}
 use Rattle.bound_certificate.specs.Problem.{Problem}
 use Rattle.bound_certificate.specs.declared.outcome.Outcome.{Outcome}
