@@ -23,7 +23,8 @@ pub fn write_job(job: &Job, out: &mut Vec<u8>) -> Result<(), Memory>
 pub fn write_solve(job: u32, nodes: u32, problem: &Problem, out: &mut Vec<u8>) -> Result<(), Memory>
     requires some { 1 ≤ nodes }
     requires few { nodes ≤ 4096 }
-    ensures written { OnOk result ((bytes : List ℕ) × SpellsSolve (record { number = job; nodes = nodes; problem = problem.now }) bytes
+    ensures written { OnOk result ((bytes : List ℕ)
+        × SpellsSolve (record { number = job; nodes = nodes; problem = problem.now }) bytes
         × (out.new.items ≡ out.old.items ++ bytes)) }
     ensures refused { OnErr result (out.new.items ≡ out.old.items) }
 {

@@ -62,7 +62,8 @@ pub solve_read : (bytes : List ℕ) (read : Result ReplyEnum ReplyFault) (job : 
     → read ≡ Ok (variants.Solve job outcome) → All (λ byte. byte < 256) bytes
     → (read ≡ Err Memory) ⊎ ReadsReply (ExpectSolve 0) bytes (read_as read)
     → (Some outcome ≡ outcome_in (reading bytes)) × SpellsReply (reply_with outcome) bytes
-solve_read bytes read job outcome is low (inl memory) = absurd (never read (variants.Solve job outcome) Memory is memory)
+solve_read bytes read job outcome is low (inl memory) =
+    absurd (never read (variants.Solve job outcome) Memory is memory)
 solve_read bytes read job outcome is low (inr reads) =
     let reply : SolveReply = record { number = job; outcome = outcome } in
     let here = subst (λ (r : Result ReplyEnum ReplyFault). ReadsReply (ExpectSolve 0) bytes (read_as r)) is reads in

@@ -50,8 +50,11 @@ impl<'a> SolveJobs<'a> {
     /// The outcome of the reply that was taken; None exactly where none was.
     pub fn outcome(self) -> Option<Outcome>
         ensures taken { is_some result ≡ (solve_state self.entry).has_taken 0 }
-        ensures kept { (problem : AnyProblem) (nodes : ℕ) (places : Places) → Judges (solve_state self.entry).work problem nodes
-            → solve_stands self.entry places → Holds problem nodes result places }
+
+        // Of any problem and nodes by which the good replies are judged, and in any list of places that the job stands for.
+        ensures kept { (problem : AnyProblem) (nodes : ℕ) (places : Places)
+            → Judges (solve_state self.entry).work problem nodes → solve_stands self.entry places
+            → Holds problem nodes result places }
     {
         self.found
     }
