@@ -1,6 +1,7 @@
 //! Jobs of a child, written and read.
 //!
-//! - `write`: `write_job`, and `write_head` and `write_frame` for a replay job in pieces
+//! - `write`: `write_job`, `write_solve` for a problem that stays with its owner, and `write_head` and `write_frame` for a
+//!   replay job in pieces
 //! - `reader`: `JobReader`, of a job whose bytes come in pieces
 //! - `head`: `JobHead`, what it knows once the head is there; `end`: `JobEnd`, what a whole job was
 //! - `read`: `read_job`, of a job in one piece
@@ -20,4 +21,4 @@ pub use end::JobEnd;
 pub use head::{JobHead, JobKind};
 pub use read::read_job;
 pub use reader::JobReader;
-pub use write::{write_frame, write_head, write_job};
+pub use write::{write_frame, write_head, write_job, write_solve};

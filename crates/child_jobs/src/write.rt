@@ -4,7 +4,7 @@ ghost use Rattle.std.specs.List.{flat_map};
 ghost use Rattle.byteorder.specs.Endian.{little_bytes};
 ghost use Rattle.bound_certificate.specs.Limits.{IsWithin};
 ghost use Rattle.hash_family.specs.Setting.{setting_of};
-ghost use Rattle.job_format.specs.Job.{IsJob, SpellsJob, AreFrames, item_bytes, frame_bytes, frame_limit, job_of};
+ghost use Rattle.job_format.specs.Job.{IsJob, IsLoad, IsSite, SpellsJob, SpellsSolve, AreFrames, item_bytes, frame_bytes, frame_limit, job_of};
 ghost use Rattle.job_format.specs.Job.{replay_head, solve_head, site_bytes, need_bytes, problem_bytes};
 ghost use Rattle.job_format.specs.declared.item.Item.{Item as AnItem};
 
@@ -27,6 +27,44 @@ pub fn write_job(job: &Job, out: &mut Vec<u8>) -> Result<(), Memory>
     };
     out.truncate(before);
     Err(fault)
+}
+
+/// Appends the spelling of a solve job: its number, the nodes of its search, 1 to 4,096, and its problem. Unchanged on
+/// refusal. It takes memory.
+pub fn write_solve(job: u32, nodes: u32, problem: &Problem, out: &mut Vec<u8>) -> Result<(), Memory>
+    requires some { 1 ≤ nodes }
+    requires few { nodes ≤ 4096 }
+    ensures written { OnOk result ((bytes : List ℕ)
+        × SpellsSolve (record { number = job; nodes = nodes; problem = problem.now }) bytes
+        × (out.new.items ≡ out.old.items ++ bytes)) }
+    ensures refused { OnErr result (out.new.items ≡ out.old.items) }
+{
+    check_sites(problem.sites());
+    check_needs(problem.needs());
+    let before = out.len();
+    let Err(fault) = put_solve(job, nodes as u16, problem, out) else {
+        return Ok(());
+    };
+    out.truncate(before);
+    Err(fault)
+}
+
+// The numbers of each site fit into their fields, as their types say.
+fn check_sites(sites: &[Site])
+    ensures { All IsSite sites.now }
+{
+    for site in sites {
+        let _ = (site.capacity, site.opening, site.unit);
+    }
+}
+
+// The load of each need fits into its field, as its type says.
+fn check_needs(needs: &[Need])
+    ensures { All IsLoad needs.now }
+{
+    for need in needs {
+        let _ = need.load;
+    }
 }
 
 /// Appends the head of a replay job: its number and the numbers of the sketch. Unchanged on refusal. It takes memory.
