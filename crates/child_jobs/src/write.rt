@@ -54,8 +54,14 @@ fn check_sites(sites: &[Site])
     ensures { All IsSite sites.now }
 {
     for site in sites {
-        let _ = (site.capacity, site.opening, site.unit);
+        check_site(site);
     }
+}
+
+fn check_site(site: &Site)
+    ensures { IsSite site.now }
+{
+    let (_capacity, _opening, _unit) = (site.capacity, site.opening, site.unit);
 }
 
 // The load of each need fits into its field, as its type says.
@@ -63,8 +69,14 @@ fn check_needs(needs: &[Need])
     ensures { All IsLoad needs.now }
 {
     for need in needs {
-        let _ = need.load;
+        check_need(need);
     }
+}
+
+fn check_need(need: &Need)
+    ensures { IsLoad need.now }
+{
+    let _load = need.load;
 }
 
 /// Appends the head of a replay job: its number and the numbers of the sketch. Unchanged on refusal. It takes memory.
