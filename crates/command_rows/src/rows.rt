@@ -13,6 +13,7 @@ use std::process::Abort;
 use std::test::Fail;
 
 mod check;
+mod child;
 mod epochs;
 mod lines;
 mod weights;

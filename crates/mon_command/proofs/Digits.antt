@@ -42,5 +42,15 @@ they_write number fits =
     let top : number / 268435456 < 16 = omega (arith, fits) in
     let one : (n : ℕ) → digit_value (glyph (n % 16)) ≡ n % 16 = λ n. glyph_value (n % 16) (omega arith) in
     ap (digits_value 16) (digits_are number fits)
-    ∙ omega (arith, fits, glyph_value (number / 268435456) top, one (number / 16777216), one (number / 1048576),
-    one (number / 65536), one (number / 4096), one (number / 256), one (number / 16), one number)
+    ∙ omega (
+      arith,
+      fits,
+      glyph_value (number / 268435456) top,
+      one (number / 16777216),
+      one (number / 1048576),
+      one (number / 65536),
+      one (number / 4096),
+      one (number / 256),
+      one (number / 16),
+      one number,
+    )

@@ -30,6 +30,33 @@ changed 10.0.0.1 1000 10.1.0.2 53 17 by 2
 end
 ";
 
+// The head of a record at second 220.
+const TWO_LATER: [u8; 16] = [220, 0, 0, 0, 0, 0, 0, 0, 42, 0, 0, 0, 42, 0, 0, 0];
+
+const EMPTY_BETWEEN: &str = "univmon central 1
+packets 3 keyed 3 routed 3
+sketch seed 1 levels 0 rows 1 width 16 heap all weight packets
+epoch 0 packets 1 weight 1 heaps kept
+level 0 packets 1 weight 1 keys 1 nonzero 1
+cardinality 1
+total 1
+heavy 10.0.0.1 1000 10.1.0.2 53 17 weight 1
+epoch 1 packets 0 weight 0 heaps kept
+level 0 packets 0 weight 0 keys 0 nonzero 0
+cardinality 0
+total 0
+change 0 1 total 1
+changed 10.0.0.1 1000 10.1.0.2 53 17 by -1
+epoch 2 packets 2 weight 2 heaps kept
+level 0 packets 2 weight 2 keys 1 nonzero 1
+cardinality 1
+total 2
+heavy 10.0.0.1 1000 10.1.0.2 53 17 weight 2
+change 1 2 total 2
+changed 10.0.0.1 1000 10.1.0.2 53 17 by 2
+end
+";
+
 const ONE_SWITCH: &str = "[[switch]]
 name = 's0'
 capacity = 10
@@ -92,6 +119,23 @@ fn tells_what_changed(rt: HostRuntime) -> Result<(), Fail> {
     let line = "central A --epoch 60 --levels 0 --rows 1 --width 16";
     assert_eq!(rt; run(alloc, line, &mut inputs, &mut sink)?, Status::Done);
     assert_eq!(rt; sink.bytes(), TWO_EPOCHS.as_bytes());
+    Ok(())
+}
+
+#[test]
+fn an_empty_epoch_has_its_block(rt: HostRuntime) -> Result<(), Fail> {
+    let alloc = rt.alloc();
+    let trace = joined(
+        alloc,
+        &[
+            &LITTLE, &HEAD, &FRAME, &TWO_LATER, &FRAME, &TWO_LATER, &FRAME,
+        ],
+    )?;
+    let mut inputs = two_inputs(alloc, trace, "", None)?;
+    let mut sink = MemSink::new(alloc, 4096, Vec::new(alloc))?;
+    let line = "central A --epoch 60 --levels 0 --rows 1 --width 16";
+    assert_eq!(rt; run(alloc, line, &mut inputs, &mut sink)?, Status::Done);
+    assert_eq!(rt; sink.bytes(), EMPTY_BETWEEN.as_bytes());
     Ok(())
 }
 

@@ -3,6 +3,7 @@
 use super::{FRAME, HEAD, LITTLE, joined, run, three_frames};
 use mon_command::{Status, TraceFault};
 use mon_io::{MemInputs, MemSink};
+use pcap_reader::PcapFault;
 use std::alloc::{AllocError, Global};
 use std::process::Abort;
 use std::test::Fail;
@@ -139,4 +140,17 @@ fn records_without_a_key_count_towards_the_limit(rt: HostRuntime) -> Result<(), 
     arp[13] = 6;
     let heavy = TraceFault::Weight { number: 4096 };
     assert_fault(&rt, rt.alloc(), LINE, &arp, &GREATEST, heavy)
+}
+
+// Records of no captured byte, one more than a trace may have.
+#[test]
+fn a_record_too_many_is_told(rt: HostRuntime) -> Result<(), Fail> {
+    let alloc = rt.alloc();
+    let head = [100, 0, 0, 0, 0, 0, 0, 0, 0, 0, 0, 0, 42, 0, 0, 0];
+    let mut inputs = trace(alloc, repeated(alloc, 1_048_577, &head, &[])?)?;
+    let mut sink = MemSink::new(alloc, 4096, Vec::new(alloc))?;
+    let status = run(alloc, "total A", &mut inputs, &mut sink)?;
+    assert_eq!(rt; status, Status::Trace(TraceFault::Pcap(PcapFault::TooMany)));
+    assert!(rt; sink.bytes().is_empty());
+    Ok(())
 }
