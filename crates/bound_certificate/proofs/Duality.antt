@@ -253,7 +253,21 @@ dual_le p cs qs lambda mu fit extends size none =
     let room = weighted_room p qs w fit in
     let parts = ap (sum_below (λ i. load p i * w (slice_index qs i))) (sym size)
     ∙ sum_below-split (λ i. load p i * w (slice_index qs i)) d m in
-    omega (arith, each, sums, inner, lambdas, swapped, opened_more, opened_sum, served_now, served_all, chosen, room, parts)
+    omega (
+      arith,
+      each,
+      sums,
+      inner,
+      lambdas,
+      swapped,
+      opened_more,
+      opened_sum,
+      served_now,
+      served_all,
+      chosen,
+      room,
+      parts,
+    )
 
 pub dual_below : (p : Problem) (cs qs lambda mu : List ℕ) → dual_credit p cs lambda mu ≤ cost p qs + dual_debit p mu
     → dual_value p cs lambda mu ≤ℤ pos (cost p qs)

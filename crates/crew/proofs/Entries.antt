@@ -10,6 +10,8 @@ pub log_length : (entries : List LogEntry) → length (log_of entries) ≡ lengt
 unfolding log_of
 log_length entries = length-reverse (map entry_of entries) ∙ length-map entries entry_of
 
-pub log_push : (entries : List LogEntry) (entry : LogEntry) → log_of (entries ++ entry ∷ []) ≡ entry_of entry ∷ log_of entries
+pub log_push : (entries : List LogEntry) (entry : LogEntry)
+    → log_of (entries ++ entry ∷ []) ≡ entry_of entry ∷ log_of entries
 unfolding log_of
-log_push entries entry = ap (λ (xs : List Entry). reverse xs) (map-append entry_of entries (entry ∷ [])) ∙ reverse-append (map entry_of entries) (entry_of entry ∷ [])
+log_push entries entry = ap (λ (xs : List Entry). reverse xs) (map-append entry_of entries (entry ∷ []))
+    ∙ reverse-append (map entry_of entries) (entry_of entry ∷ [])

@@ -37,16 +37,23 @@ pub record IsBehind (inner outer : Duty) (before mid : Option (List ℕ)) : Type
   pub left : (input : Input) (now : Option (List ℕ)) → inner.left input mid now → outer.left input before now
   pub once : (now : Option (List ℕ)) → inner.left inputs.Topology mid now → ⊥
 
-pub answers_behind : {inner outer : Duty} (before mid after : InputState) (sink sink_after : SinkState) (status : Status)
+pub answers_behind : {inner outer : Duty} (before mid after : InputState) (sink sink_after : SinkState)
+    (status : Status)
     → IsBehind inner outer before.rest mid.rest → before.faults ≤ mid.faults
-    → Answers inner (call_of mid after sink sink_after) status → Answers outer (call_of before after sink sink_after) status
+    → Answers inner (call_of mid after sink sink_after) status
+    → Answers outer (call_of before after sink sink_after) status
 answers_behind before mid after sink sink_after Done behind later answers =
     record { text = answers.text; is_due = behind.due answers.text answers.is_due; grew = answers.grew }
 answers_behind before mid after sink sink_after (Usage fault) behind later answers = absurd answers
-answers_behind before mid after sink sink_after (ReadFault input) behind later answers =
-    (rose_later before.faults mid.faults after.faults later answers.0, behind.left input after.rest answers.1, answers.2)
-answers_behind before mid after sink sink_after (Topology fault) behind later answers = absurd (behind.unfit fault answers.0)
-answers_behind before mid after sink sink_after (Trace fault) behind later answers = (behind.refused fault answers.0, answers.1)
+answers_behind before mid after sink sink_after (ReadFault input) behind later answers = (
+  rose_later before.faults mid.faults after.faults later answers.0,
+  behind.left input after.rest answers.1,
+  answers.2,
+)
+answers_behind before mid after sink sink_after (Topology fault) behind later
+    answers = absurd (behind.unfit fault answers.0)
+answers_behind before mid after sink sink_after (Trace fault) behind later
+    answers = (behind.refused fault answers.0, answers.1)
 answers_behind before mid after sink sink_after (Certificate fault) behind later answers =
     (behind.uncertified fault answers.0, answers.1)
 answers_behind before mid after sink sink_after (Job fault) behind later answers =
@@ -58,14 +65,18 @@ answers_behind before mid after sink sink_after SinkFault behind later answers =
 answers_behind before mid after sink sink_after Memory behind later answers = answers
 
 -- names that were picked in a row
-pub picked_more : (a b c : List (List ℕ) → Type 0) (first second : List (List ℕ)) → Picked a b first → Picked b c second → Picked a c (first ++ second)
+pub picked_more : (a b c : List (List ℕ) → Type 0) (first second : List (List ℕ)) → Picked a b first → Picked b c second
+    → Picked a c (first ++ second)
 picked_more a b c first second one more = λ earlier stood.
-    subst (λ (names : List (List ℕ)). c names) (append_assoc earlier first second) (more (earlier ++ first) (one earlier stood))
+    subst (λ (names : List (List ℕ)). c names) (append_assoc earlier first second)
+    (more (earlier ++ first) (one earlier stood))
 
-pub picks_behind : (a b c : List (List ℕ) → Type 0) {inner outer : Duty} (name : List ℕ) (more : List Reading) (before mid after : InputState) (sink sink_after : SinkState) (status : Status)
+pub picks_behind : (a b c : List (List ℕ) → Type 0) {inner outer : Duty} (name : List ℕ) (more : List Reading)
+    (before mid after : InputState) (sink sink_after : SinkState) (status : Status)
     → IsBehind inner outer before.rest mid.rest → Answers inner (call_of mid after sink sink_after) status
     → Picked a b (name ∷ []) → Picks b c more status → Picks a c (reading inputs.Topology name ∷ more) status
-picks_behind a b c name more before mid after sink sink_after Done behind answers first picks = picked_more a b c (name ∷ []) (names_of more) first picks
+picks_behind a b c name more before mid after sink sink_after Done behind answers first picks = picked_more a b c
+    (name ∷ []) (names_of more) first picks
 picks_behind a b c name more before mid after sink sink_after (Usage fault) behind answers first picks = absurd answers
 picks_behind a b c name more before mid after sink sink_after (ReadFault inputs.Topology) behind answers first picks =
     absurd (behind.once after.rest answers.1)
@@ -75,14 +86,16 @@ picks_behind a b c name more before mid after sink sink_after (ReadFault inputs.
     picked_more a b c (name ∷ []) (names_to inputs.Tree more) first picks
 picks_behind a b c name more before mid after sink sink_after (ReadFault inputs.Job) behind answers first picks =
     picked_more a b c (name ∷ []) (names_to inputs.Job more) first picks
-picks_behind a b c name more before mid after sink sink_after (Topology fault) behind answers first picks = absurd (behind.unfit fault answers.0)
+picks_behind a b c name more before mid after sink sink_after (Topology fault) behind answers first
+    picks = absurd (behind.unfit fault answers.0)
 picks_behind a b c name more before mid after sink sink_after (Trace fault) behind answers first picks =
     picked_more a b c (name ∷ []) (names_to inputs.Trace more) first picks
 picks_behind a b c name more before mid after sink sink_after (Certificate fault) behind answers first picks =
     picked_more a b c (name ∷ []) (names_to inputs.Tree more) first picks
 picks_behind a b c name more before mid after sink sink_after (Job fault) behind answers first picks =
     picked_more a b c (name ∷ []) (names_to inputs.Job more) first picks
-picks_behind a b c name more before mid after sink sink_after SinkFault behind answers first picks = picked_more a b c (name ∷ []) (names_of more) first picks
+picks_behind a b c name more before mid after sink sink_after SinkFault behind answers first picks = picked_more a b c
+    (name ∷ []) (names_of more) first picks
 picks_behind a b c name more before mid after sink sink_after Memory behind answers first picks = record {
   front = name ∷ picks.front;
   back = picks.back;

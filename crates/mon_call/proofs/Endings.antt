@@ -11,7 +11,8 @@ use Rattle.mon_call.specs.declared.status.Status.{Status}
 use Rattle.mon_call.specs.declared.status.Status.TheVariants.{Done, Usage, ReadFault, Topology, Trace, Certificate, Job, SinkFault, Memory}
 
 -- the last write of a text that is due
-pub finished : (duty : Duty) (call : Call) (text : List ℕ) (status : Status) → duty.due text → Finishes call.sink call.sink_after text status
+pub finished : (duty : Duty) (call : Call) (text : List ℕ) (status : Status) → duty.due text
+    → Finishes call.sink call.sink_after text status
     → Answers duty call status
 finished duty call text Done due finishes = record { text = text; is_due = due; grew = finishes }
 finished duty call text (Usage fault) due finishes = absurd finishes
@@ -23,8 +24,10 @@ finished duty call text (Job fault) due finishes = absurd finishes
 finished duty call text SinkFault due finishes = (finishes.0, record { text = text; is_due = due; part = finishes.1 })
 finished duty call text Memory due finishes = absurd finishes
 
-pub picks_finished : (before after : List (List ℕ) → Type 0) (reads : List Reading) (call : Call) (text : List ℕ) (status : Status)
-    → Finishes call.sink call.sink_after text status → Picked before after (names_of reads) → Picks before after reads status
+pub picks_finished : (before after : List (List ℕ) → Type 0) (reads : List Reading) (call : Call) (text : List ℕ)
+    (status : Status)
+    → Finishes call.sink call.sink_after text status → Picked before after (names_of reads)
+    → Picks before after reads status
 picks_finished before after reads call text Done finishes picked = picked
 picks_finished before after reads call text (Usage fault) finishes picked = absurd finishes
 picks_finished before after reads call text (ReadFault input) finishes picked = absurd finishes
@@ -38,7 +41,8 @@ picks_finished before after reads call text Memory finishes picked = absurd fini
 -- a topology that is not read or is refused
 pub unread : (contents : Option (List ℕ)) (duty : Duty) (call : Call) (status : Status)
     → ((fault : TopologyFault) → IsUnfit contents fault → duty.unfit fault)
-    → (IsLeft contents call.inputs.rest call.inputs_after.rest → duty.left inputs.Topology call.inputs.rest call.inputs_after.rest)
+    → (IsLeft contents call.inputs.rest call.inputs_after.rest
+    → duty.left inputs.Topology call.inputs.rest call.inputs_after.rest)
     → IsSilent call → ReadsTopology contents call.inputs call.inputs_after (Err status) → Answers duty call status
 unread contents duty call Done unfit left silent reads = absurd reads
 unread contents duty call (Usage fault) unfit left silent reads = absurd reads
@@ -53,7 +57,8 @@ unread contents duty call (Job fault) unfit left silent reads = absurd reads
 unread contents duty call SinkFault unfit left silent reads = absurd reads
 unread contents duty call Memory unfit left silent reads = silent
 
-pub picks_unread : (before after : List (List ℕ) → Type 0) (contents : Option (List ℕ)) (name : List ℕ) (more : List Reading) (call : Call) (status : Status)
+pub picks_unread : (before after : List (List ℕ) → Type 0) (contents : Option (List ℕ)) (name : List ℕ)
+    (more : List Reading) (call : Call) (status : Status)
     → ReadsTopology contents call.inputs call.inputs_after (Err status) → Picked before after (name ∷ [])
     → Picks before after (reading inputs.Topology name ∷ more) status
 picks_unread before after contents name more call Done reads picked = absurd reads
@@ -71,10 +76,13 @@ picks_unread before after contents name more call Memory reads picked =
     record { front = name ∷ []; back = names_of more; parts = refl; picked = picked }
 
 -- a trace that is not read or is refused
-pub untraced : {V : Type 0} (P : V → Type 0) (refused : TraceFault → Type 0) (contents : Option (List ℕ)) (duty : Duty) (call : Call) (status : Status)
+pub untraced : {V : Type 0} (P : V → Type 0) (refused : TraceFault → Type 0) (contents : Option (List ℕ)) (duty : Duty)
+    (call : Call) (status : Status)
     → ((fault : TraceFault) → refused fault → duty.refused fault)
-    → (IsLeft contents call.inputs.rest call.inputs_after.rest → duty.left inputs.Trace call.inputs.rest call.inputs_after.rest)
-    → IsSilent call → ReadsTrace P refused contents call.inputs call.inputs_after (Err status) → Answers duty call status
+    → (IsLeft contents call.inputs.rest call.inputs_after.rest
+    → duty.left inputs.Trace call.inputs.rest call.inputs_after.rest)
+    → IsSilent call → ReadsTrace P refused contents call.inputs call.inputs_after (Err status)
+    → Answers duty call status
 untraced P refused contents duty call Done is left silent reads = absurd reads
 untraced P refused contents duty call (Usage fault) is left silent reads = absurd reads
 untraced P refused contents duty call (ReadFault inputs.Topology) is left silent reads = absurd reads
@@ -88,7 +96,8 @@ untraced P refused contents duty call (Job fault) is left silent reads = absurd 
 untraced P refused contents duty call SinkFault is left silent reads = absurd reads
 untraced P refused contents duty call Memory is left silent reads = silent
 
-pub picks_untraced : {V : Type 0} (P : V → Type 0) (refused : TraceFault → Type 0) (before after : List (List ℕ) → Type 0) (contents : Option (List ℕ)) (name : List ℕ) (call : Call) (status : Status)
+pub picks_untraced : {V : Type 0} (P : V → Type 0) (refused : TraceFault → Type 0)
+    (before after : List (List ℕ) → Type 0) (contents : Option (List ℕ)) (name : List ℕ) (call : Call) (status : Status)
     → ReadsTrace P refused contents call.inputs call.inputs_after (Err status) → Picked before after (name ∷ [])
     → Picks before after (reading inputs.Trace name ∷ []) status
 picks_untraced P refused before after contents name call Done reads picked = absurd reads

@@ -6,11 +6,15 @@ use Rattle.topology.specs.Topology.{answer, file_fault, most_bytes, root_of, top
 use Rattle.topology.specs.declared.fault.TopologyFault.TheVariants as fault
 
 -- more bytes than a file of a topology can have
-pub too_long : (contents now : Option (List ℕ)) (front : List ℕ) → length front ≡ most_bytes + 1 → Took contents now front → IfSome contents (λ bytes. topology_of bytes ≡ Err fault.TooLong)
+pub too_long : (contents now : Option (List ℕ)) (front : List ℕ) → length front ≡ most_bytes + 1
+    → Took contents now front → IfSome contents (λ bytes. topology_of bytes ≡ Err fault.TooLong)
 unfolding topology_of file_fault
-too_long contents None front size took = subst (λ (told : Option (List ℕ)). IfSome told (λ bytes. answer (file_fault bytes) (topo_of (root_of bytes)) ≡ Err fault.TooLong)) (sym took.taken) tt
+too_long contents None front size took = subst (λ (told : Option (List ℕ)). IfSome told
+    (λ bytes. answer (file_fault bytes) (topo_of (root_of bytes)) ≡ Err fault.TooLong)) (sym took.taken) tt
 too_long contents (Some rest) front size took =
-    subst (λ (told : Option (List ℕ)). IfSome told (λ bytes. answer (file_fault bytes) (topo_of (root_of bytes)) ≡ Err fault.TooLong)) (sym took.taken) (grown (front ++ rest) (omega (arith, size, length-append front rest)))
+    subst (λ (told : Option (List ℕ)). IfSome told (λ bytes. answer (file_fault bytes) (topo_of (root_of bytes)) ≡ Err
+    fault.TooLong)) (sym took.taken) (grown (front ++ rest) (omega (arith, size, length-append front rest)))
   where
-    grown : (bytes : List ℕ) → most_bytes + 1 ≤ length bytes → answer (file_fault bytes) (topo_of (root_of bytes)) ≡ Err fault.TooLong
+    grown : (bytes : List ℕ) → most_bytes + 1 ≤ length bytes
+        → answer (file_fault bytes) (topo_of (root_of bytes)) ≡ Err fault.TooLong
     grown bytes more = grind (arith, nat_tests)

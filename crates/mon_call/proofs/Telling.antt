@@ -5,7 +5,8 @@ use Rattle.mon_call.specs.Told.{IsSmooth, IsTold}
 use Rattle.mon_call.specs.declared.status.Status.{Status}
 use Rattle.mon_call.specs.declared.status.Status.TheVariants.{Done, Usage, ReadFault, Topology, Trace, Certificate, Job, SinkFault, Memory}
 
-pub tells : (duty : Duty) (call : Call) (wanted status : Status) → IsTold duty wanted → IsSmooth call → Answers duty call status
+pub tells : (duty : Duty) (call : Call) (wanted status : Status) → IsTold duty wanted → IsSmooth call
+    → Answers duty call status
     → UnlessMemory wanted status
 tells duty call wanted Done told smooth answers = inl (told.alone Done (answers.text, answers.is_due))
 tells duty call wanted (Usage fault) told smooth answers = absurd answers

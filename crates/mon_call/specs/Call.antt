@@ -63,7 +63,8 @@ abbrev pub Answers : Duty → Call → Status → Type 0
 Answers duty call Done = Wrote duty.due call
 Answers duty call (Usage fault) = ⊥
 Answers duty call (ReadFault input) =
-    Rose call.inputs.faults call.inputs_after.faults × duty.left input call.inputs.rest call.inputs_after.rest × IsSilent call
+    Rose call.inputs.faults call.inputs_after.faults × duty.left input call.inputs.rest call.inputs_after.rest
+    × IsSilent call
 Answers duty call (Topology fault) = duty.unfit fault × IsSilent call
 Answers duty call (Trace fault) = duty.refused fault × IsSilent call
 Answers duty call (Certificate fault) = duty.uncertified fault × IsSilent call

@@ -17,7 +17,8 @@ status_at (stops.Bad fault) = Trace (Pcap fault)
 status_at stops.Memory = Memory
 
 -- How reading a trace to its end ended: with a value of which P holds, or with the status of the call.
-abbrev pub ReadsTrace : {V : Type 0} → (V → Type 0) → (TraceFault → Type 0) → Option (List ℕ) → InputState → InputState → Result V Status → Type 0
+abbrev pub ReadsTrace : {V : Type 0} → (V → Type 0) → (TraceFault → Type 0) → Option (List ℕ) → InputState → InputState
+    → Result V Status → Type 0
 ReadsTrace P refused contents before now (Ok value) = P value
 ReadsTrace P refused contents before now (Err Done) = ⊥
 ReadsTrace P refused contents before now (Err (Usage fault)) = ⊥

@@ -16,12 +16,15 @@ use Rattle.mon_central.specs.Sketched.{Divides, IsPart, IsSketched}
 use Rattle.mon_central.specs.declared.epochs.Epochs.{Epochs}
 
 -- what was sketched of a trace are some records
-pub part_of_trace : {contents : Option (List ℕ)} {topology : Option Topo} {setting : Setting} {epochs : Epochs} → IsSketched contents topology setting epochs → IsPart setting topology epochs
+pub part_of_trace : {contents : Option (List ℕ)} {topology : Option Topo} {setting : Setting} {epochs : Epochs}
+    → IsSketched contents topology setting epochs → IsPart setting topology epochs
 part_of_trace is = record { header = is.header; members = is.members; few = is.few; divides = is.divides }
 
 -- the text of what was sketched is due
-pub report_due : {contents : Option (List ℕ)} {topology : Option Topo} {setting : Setting} {epochs : Epochs} {text : List ℕ} → IsSketched contents topology setting epochs
-    → ((topo : Option Topo) (header : Header) (members : List Record) → Divides setting topo epochs header members → text ≡ central_text setting topo header members)
+pub report_due : {contents : Option (List ℕ)} {topology : Option Topo} {setting : Setting} {epochs : Epochs}
+    {text : List ℕ} → IsSketched contents topology setting epochs
+    → ((topo : Option Topo) (header : Header) (members : List Record) → Divides setting topo epochs header members
+    → text ≡ central_text setting topo header members)
     → IsReport contents topology setting text
 report_due {topology = topology} is lines = record {
   header = is.header;
@@ -45,9 +48,11 @@ alone contents trace setting before = record {
 }
 
 -- behind a topology it owes the report with it
-pub behind : (contents mid_contents : Contents) (trace name : List ℕ) (topology : Topo) (setting : Setting) (before mid : InputState)
+pub behind : (contents mid_contents : Contents) (trace name : List ℕ) (topology : Topo) (setting : Setting)
+    (before mid : InputState)
     → mid_contents ≡ contents → SpellTopology (contents name) topology → IsOver mid.rest
-    → IsBehind (report_duty mid_contents trace (Some topology) setting) (central_duty contents trace (Some name) setting) before.rest mid.rest
+    → IsBehind (report_duty mid_contents trace (Some topology) setting)
+    (central_duty contents trace (Some name) setting) before.rest mid.rest
 behind contents mid_contents trace name topology setting before mid same spelled over = record {
   due = λ text report. record {
     topology = Some topology;
@@ -55,14 +60,19 @@ behind contents mid_contents trace name topology setting before mid same spelled
     report = subst (λ (f : Contents). IsReport (f trace) (Some topology) setting text) same report;
   };
   unfit = λ fault unfit. unfit;
-  refused = λ fault refused. ((Some topology, (topology, refl, spelled)), subst (λ (f : Contents). IsRefused f trace setting fault) same refused);
+  refused = λ fault refused. (
+    (Some topology, (topology, refl, spelled)),
+    subst
+        (λ (f : Contents). IsRefused f trace setting fault) same refused,
+  );
   uncertified = λ fault uncertified. uncertified;
   misspelled = λ fault misspelled. misspelled;
   left = left;
   once = λ now left. left;
 }
   where
-    left : (input : Input) (now : Option (List ℕ)) → report_left mid_contents trace input mid.rest now → central_left contents trace (Some name) input before.rest now
+    left : (input : Input) (now : Option (List ℕ)) → report_left mid_contents trace input mid.rest now
+        → central_left contents trace (Some name) input before.rest now
     left inputs.Topology now is = absurd is
     left inputs.Trace now is = (
       (Some topology, (topology, refl, spelled)),

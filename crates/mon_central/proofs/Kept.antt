@@ -31,7 +31,8 @@ length-distinct_keys-le items =
     omega (arith, length-fold-le [] (map f items), length-map items f)
 
 -- no more distinct live keys than items
-pub few_live : (seed level : ℕ) (items : List Item) → length (distinct_keys (live_items seed level items)) ≤ length items
+pub few_live : (seed level : ℕ) (items : List Item)
+    → length (distinct_keys (live_items seed level items)) ≤ length items
 few_live seed level items =
     omega (arith, length-distinct_keys-le (live_items seed level items), length-live_items-le seed level items)
 

@@ -13,17 +13,20 @@ use Rattle.mon_central.specs.declared.epochs.Epochs.{Epochs}
 use Rattle.mon_call.specs.declared.setting.Setting.{Setting}
 
 -- what was sketched are the records that a reader has read
-pub record Dividing (contents rest : Option (List ℕ)) (reader : PcapReader) (setting : Setting) (topology : Option Topo) (epochs : Epochs) : Type 0 where
+pub record Dividing (contents rest : Option (List ℕ)) (reader : PcapReader) (setting : Setting) (topology : Option Topo)
+    (epochs : Epochs) : Type 0 where
   pub members : List Record
   pub so_far : SoFar contents rest reader members
   pub divides : Divides setting topology epochs reader.header members
 
 -- a record that a step gave, behind fewer than 1,048,576
-pub few_before : {contents now : Option (List ℕ)} {next : PcapReader} {packet : Packet} (members : List Record) → Advanced contents now next members (Ok (Some packet)) → length members < 1048576
+pub few_before : {contents now : Option (List ℕ)} {next : PcapReader} {packet : Packet} (members : List Record)
+    → Advanced contents now next members (Ok (Some packet)) → length members < 1048576
 few_before members advanced = omega (arith, length-append members (advanced.0 ∷ []), advanced.1.begins.few)
 
 -- what was sketched are some records
-pub part_of : {contents rest : Option (List ℕ)} {reader : PcapReader} {setting : Setting} {topology : Option Topo} {epochs : Epochs} → Dividing contents rest reader setting topology epochs → IsPart setting topology epochs
+pub part_of : {contents rest : Option (List ℕ)} {reader : PcapReader} {setting : Setting} {topology : Option Topo}
+    {epochs : Epochs} → Dividing contents rest reader setting topology epochs → IsPart setting topology epochs
 part_of {reader = reader} dividing = record {
   header = reader.header;
   members = dividing.members;
@@ -32,12 +35,16 @@ part_of {reader = reader} dividing = record {
 }
 
 -- the packet of the record that a step gave, and its key
-pub packet_read : {contents now : Option (List ℕ)} {next : PcapReader} {packet : Packet} (header : Header) (members : List Record) → next.header ≡ header → (advanced : Advanced contents now next members (Ok (Some packet)))
+pub packet_read : {contents now : Option (List ℕ)} {next : PcapReader} {packet : Packet} (header : Header)
+    (members : List Record) → next.header ≡ header → (advanced : Advanced contents now next members (Ok (Some packet)))
     → packet ≡ packet_of header advanced.0
 packet_read header members same advanced = advanced.2 ∙ ap (λ (h : Header). packet_of h advanced.0) same
 
-pub key_read : {contents now : Option (List ℕ)} {next : PcapReader} {packet : Packet} {key : Option (List ℕ)} (header : Header) (members : List Record) → next.header ≡ header → (advanced : Advanced contents now next members (Ok (Some packet)))
+pub key_read : {contents now : Option (List ℕ)} {next : PcapReader} {packet : Packet} {key : Option (List ℕ)}
+    (header : Header) (members : List Record) → next.header ≡ header
+    → (advanced : Advanced contents now next members (Ok (Some packet)))
     → key ≡ frame_key packet.link (captured_of next) → key ≡ frame_key header.link advanced.0.captured
 key_read {next = next} header members same advanced is =
     let link = ap (λ (p : Packet). p.link) advanced.2 ∙ ap (λ (h : Header). h.link) same in
-    is ∙ ap (λ (l : Link). frame_key l (captured_of next)) link ∙ ap (λ (bytes : List ℕ). frame_key header.link bytes) advanced.3
+    is ∙ ap (λ (l : Link). frame_key l (captured_of next)) link
+    ∙ ap (λ (bytes : List ℕ). frame_key header.link bytes) advanced.3

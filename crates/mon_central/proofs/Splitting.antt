@@ -18,7 +18,8 @@ use Rattle.mon_central.specs.declared.sketching.Sketched.{Sketched}
 use Rattle.mon_central.proofs.Ranges.{flat_map-range}
 
 -- the items of two lists of packets
-pub items_in-append : (epoch : ℕ) (xs ys : List Routed) → items_in epoch (xs ++ ys) ≡ items_in epoch xs ++ items_in epoch ys
+pub items_in-append : (epoch : ℕ) (xs ys : List Routed) → items_in epoch (xs ++ ys) ≡ items_in epoch xs
+    ++ items_in epoch ys
 unfolding items_in
 items_in-append epoch xs ys =
     let test = λ (packet : Routed). packet.epoch == epoch in
@@ -47,30 +48,39 @@ length-items_in-le epoch routed =
     omega (arith, length-map (filter test routed) item_of, length-filter test routed, count_by-le-length test routed)
 
 -- one more sketch, of an epoch without items
-pub splits_reach : (setting : Setting) (sketches : List Sketched) (sketched : Sketched) (routed : List Routed) → Sketches setting sketched [] → Splits setting sketches routed → Splits setting (sketches ++ sketched ∷ []) routed
+pub splits_reach : (setting : Setting) (sketches : List Sketched) (sketched : Sketched) (routed : List Routed)
+    → Sketches setting sketched [] → Splits setting sketches routed → Splits setting (sketches ++ sketched ∷ []) routed
 splits_reach setting sketches sketched routed empty splits = record {
   each = λ epoch d within. elim (cases_lt epoch (length sketches)) [
-    | inl below ↦ subst (λ (s : Sketched). Sketches setting s (items_in epoch routed)) (sym (get_or-append sketches (sketched ∷ []) d epoch below)) (splits.each epoch d below)
+    | inl below ↦ subst (λ (s : Sketched). Sketches setting s (items_in epoch routed))
+        (sym (get_or-append sketches (sketched ∷ []) d epoch below)) (splits.each epoch d below)
     | inr above ↦
         let last : length sketches ≡ epoch = omega (arith, within, above, length-append sketches (sketched ∷ [])) in
-        subst (λ (s : Sketched). Sketches setting s (items_in epoch routed)) (sym (get_or_push sketches sketched d epoch last))
+        subst (λ (s : Sketched). Sketches setting s (items_in epoch routed))
+        (sym (get_or_push sketches sketched d epoch last))
         (subst (λ (items : List Item). Sketches setting sketched items) (sym (splits.none epoch above)) empty)
   ];
   none = λ epoch past. splits.none epoch (omega (arith, past, length-append sketches (sketched ∷ [])));
 }
 
 -- one more packet in the sketch of its epoch
-pub splits_add : (setting : Setting) (sketches : List Sketched) (packet : Routed) (old more : Sketched) (routed : List Routed) → packet.epoch < length sketches
-    → ((items : List Item) → Sketches setting (slice_index_or sketches packet.epoch old) items → Sketches setting more (items ++ item_of packet ∷ []))
+pub splits_add : (setting : Setting) (sketches : List Sketched) (packet : Routed) (old more : Sketched)
+    (routed : List Routed) → packet.epoch < length sketches
+    → ((items : List Item) → Sketches setting (slice_index_or sketches packet.epoch old) items
+    → Sketches setting more (items ++ item_of packet ∷ []))
     → Splits setting sketches routed → Splits setting (set sketches packet.epoch more) (routed ++ packet ∷ [])
 splits_add setting sketches packet old more routed within adds splits = record {
   each = λ k d inside. elim (cases_eq k packet.epoch) [
     | inl same ↦
-        subst (λ (n : ℕ). Sketches setting (slice_index_or (set sketches packet.epoch more) n d) (items_in n (routed ++ packet ∷ []))) (sym same)
-        (subst (λ (s : Sketched). Sketches setting s (items_in packet.epoch (routed ++ packet ∷ []))) (sym (get_or-set_same sketches packet.epoch more d within))
-        (subst (λ (items : List Item). Sketches setting more items) (sym own) (adds (items_in packet.epoch routed) (splits.each packet.epoch old within))))
+        subst (λ (n : ℕ). Sketches setting (slice_index_or (set sketches packet.epoch more) n d)
+        (items_in n (routed ++ packet ∷ []))) (sym same)
+        (subst (λ (s : Sketched). Sketches setting s (items_in packet.epoch (routed ++ packet ∷ [])))
+        (sym (get_or-set_same sketches packet.epoch more d within))
+        (subst (λ (items : List Item). Sketches setting more items) (sym own)
+        (adds (items_in packet.epoch routed) (splits.each packet.epoch old within))))
     | inr apart ↦
-        subst (λ (s : Sketched). Sketches setting s (items_in k (routed ++ packet ∷ []))) (sym (get_or-set_other sketches packet.epoch k more d apart))
+        subst (λ (s : Sketched). Sketches setting s (items_in k (routed ++ packet ∷ [])))
+        (sym (get_or-set_other sketches packet.epoch k more d apart))
         (subst (λ (items : List Item). Sketches setting (slice_index_or sketches k d) items) (sym (other k apart))
         (splits.each k d (omega (arith, inside, length-set sketches packet.epoch more))))
   ];
@@ -80,7 +90,8 @@ splits_add setting sketches packet old more routed within adds splits = record {
 }
   where
     own : items_in packet.epoch (routed ++ packet ∷ []) ≡ items_in packet.epoch routed ++ item_of packet ∷ []
-    own = items_in-append packet.epoch routed (packet ∷ []) ∙ ap (λ (items : List Item). items_in packet.epoch routed ++ items) (items_in-own packet)
+    own = items_in-append packet.epoch routed (packet ∷ [])
+        ∙ ap (λ (items : List Item). items_in packet.epoch routed ++ items) (items_in-own packet)
 
     other : (k : ℕ) → k ≢ packet.epoch → items_in k (routed ++ packet ∷ []) ≡ items_in k routed
     other k apart =
@@ -89,14 +100,17 @@ splits_add setting sketches packet old more routed within adds splits = record {
         ∙ append-nil (items_in k routed)
 
 -- the sketch of an epoch
-pub sketch_at : (setting : Setting) (sketches : List Sketched) (routed : List Routed) (epoch : ℕ) (sketched : Sketched) → sketched ≡ slice_index_or sketches epoch sketched
+pub sketch_at : (setting : Setting) (sketches : List Sketched) (routed : List Routed) (epoch : ℕ) (sketched : Sketched)
+    → sketched ≡ slice_index_or sketches epoch sketched
     → epoch < length sketches → Splits setting sketches routed → Sketches setting sketched (items_in epoch routed)
 sketch_at setting sketches routed epoch sketched is within splits =
     subst (λ (s : Sketched). Sketches setting s (items_in epoch routed)) (sym is) (splits.each epoch sketched within)
 
 -- the lines of one more epoch
-pub epochs_lines-push : (setting : Setting) (routed : List Routed) (epoch : ℕ) (text lines : List ℕ) → text ≡ epochs_lines setting routed epoch
-    → lines ≡ block_of setting epoch (items_in epoch routed) ++ (if epoch == 0 then [] else change_of setting epoch (items_in (epoch - 1) routed) (items_in epoch routed))
+pub epochs_lines-push : (setting : Setting) (routed : List Routed) (epoch : ℕ) (text lines : List ℕ)
+    → text ≡ epochs_lines setting routed epoch
+    → lines ≡ block_of setting epoch (items_in epoch routed)
+    ++ (if epoch == 0 then [] else change_of setting epoch (items_in (epoch - 1) routed) (items_in epoch routed))
     → text ++ lines ≡ epochs_lines setting routed (epoch + 1)
 unfolding epoch_lines
 epochs_lines-push setting routed epoch text lines before now =

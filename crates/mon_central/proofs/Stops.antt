@@ -22,10 +22,12 @@ use Rattle.mon_central.specs.declared.epochs.Epochs.{Epochs}
 -- how reading a trace ended
 abbrev pub Reads : Contents → List ℕ → Option Topo → Setting → InputState → InputState → Status → Type 0
 Reads contents trace topology setting before now status =
-    ReadsTrace (IsSketched (contents trace) topology setting) (IsRefused contents trace setting) (contents trace) before now (Err status)
+    ReadsTrace (IsSketched (contents trace) topology setting) (IsRefused contents trace setting) (contents trace) before
+    now (Err status)
 
 -- at its beginning
-pub begun_stop : (contents : Contents) (trace : List ℕ) (topology : Option Topo) (setting : Setting) (before now : InputState) (stop : PcapStop)
+pub begun_stop : (contents : Contents) (trace : List ℕ) (topology : Option Topo) (setting : Setting)
+    (before now : InputState) (stop : PcapStop)
     → Begun (contents trace) before.rest now.rest (Err stop) → (stop ≡ stops.Read → Rose before.faults now.faults)
     → Reads contents trace topology setting before now (status_at stop)
 begun_stop contents trace topology setting before now stops.Read begun cause = (cause refl, begun)
@@ -34,32 +36,52 @@ begun_stop contents trace topology setting before now (stops.Bad fault) begun ca
 begun_stop contents trace topology setting before now stops.Memory begun cause = tt
 
 -- a rise behind a count that didn't fall, in a reader that goes on
-rose_since : (reader : PcapReader) (before mid now : ℕ) → before ≤ mid → reader.stop ≡ None → (reader.stop ≡ Some stops.Read) ⊎ Rose mid now → Rose before now
+rose_since : (reader : PcapReader) (before mid now : ℕ) → before ≤ mid → reader.stop ≡ None
+    → (reader.stop ≡ Some stops.Read) ⊎ Rose mid now → Rose before now
 rose_since reader before mid now later going (inl stopped) = absurd (cc (sym going ∙ stopped))
 rose_since reader before mid now later going (inr rose) = omega (arith, later, rose)
 
 -- behind some records
-pub advanced_stop : (contents : Contents) (trace : List ℕ) (topology : Option Topo) (setting : Setting) (before mid now : InputState) (reader next : PcapReader) (members : List Record) (stop : PcapStop)
-    → SoFar (contents trace) mid.rest reader members → IsDivided setting.division reader.header members → Advanced (contents trace) now.rest next members (Err stop)
+pub advanced_stop : (contents : Contents) (trace : List ℕ) (topology : Option Topo) (setting : Setting)
+    (before mid now : InputState) (reader next : PcapReader) (members : List Record) (stop : PcapStop)
+    → SoFar (contents trace) mid.rest reader members → IsDivided setting.division reader.header members
+    → Advanced (contents trace) now.rest next members (Err stop)
     → before.faults ≤ mid.faults → (stop ≡ stops.Read → (reader.stop ≡ Some stops.Read) ⊎ Rose mid.faults now.faults)
     → Reads contents trace topology setting before now (status_at stop)
-advanced_stop contents trace topology setting before mid now reader next members stops.Read so_far divided advanced later cause =
+advanced_stop contents trace topology setting before mid now reader next members stops.Read so_far divided advanced
+    later cause =
     (rose_since reader before.faults mid.faults now.faults later so_far.going (cause refl), inr advanced)
-advanced_stop contents trace topology setting before mid now reader next members (stops.Bad fault) so_far divided advanced later cause =
+advanced_stop contents trace topology setting before mid now reader next members (stops.Bad fault) so_far divided
+    advanced later cause =
     advanced_badly setting.division (contents trace) mid.rest now.rest reader next members fault so_far divided advanced
-advanced_stop contents trace topology setting before mid now reader next members stops.Memory so_far divided advanced later cause = tt
+advanced_stop contents trace topology setting before mid now reader next members stops.Memory so_far divided advanced
+    later cause = tt
 
 -- at a record that is late or heavy
-pub counted_stop : (contents : Contents) (trace : List ℕ) (topology : Option Topo) (setting : Setting) (epochs : Epochs) (before now : InputState) (next : PcapReader) (header : Header) (members : List Record) (member : Record) (status : Status)
-    → next.header ≡ header → SoFar (contents trace) now.rest next (members ++ member ∷ []) → IsDivided setting.division header members
-    → Counted setting topology epochs header members member (Err status) → Reads contents trace topology setting before now status
-counted_stop contents trace topology setting epochs before now next header members member Done same so_far divided counted = absurd counted
-counted_stop contents trace topology setting epochs before now next header members member (Usage fault) same so_far divided counted = absurd counted
-counted_stop contents trace topology setting epochs before now next header members member (ReadFault input) same so_far divided counted = absurd counted
-counted_stop contents trace topology setting epochs before now next header members member (Topology fault) same so_far divided counted = absurd counted
-counted_stop contents trace topology setting epochs before now next header members member (Trace fault) same so_far divided counted =
-    stopped_at setting.division topology epochs.counts (contents trace) now.rest next header members member fault same so_far divided counted
-counted_stop contents trace topology setting epochs before now next header members member (Certificate fault) same so_far divided counted = absurd counted
-counted_stop contents trace topology setting epochs before now next header members member (Job fault) same so_far divided counted = absurd counted
-counted_stop contents trace topology setting epochs before now next header members member SinkFault same so_far divided counted = absurd counted
-counted_stop contents trace topology setting epochs before now next header members member Memory same so_far divided counted = tt
+pub counted_stop : (contents : Contents) (trace : List ℕ) (topology : Option Topo) (setting : Setting) (epochs : Epochs)
+    (before now : InputState) (next : PcapReader) (header : Header) (members : List Record) (member : Record)
+    (status : Status)
+    → next.header ≡ header → SoFar (contents trace) now.rest next (members ++ member ∷ [])
+    → IsDivided setting.division header members
+    → Counted setting topology epochs header members member (Err status)
+    → Reads contents trace topology setting before now status
+counted_stop contents trace topology setting epochs before now next header members member Done same so_far divided
+    counted = absurd counted
+counted_stop contents trace topology setting epochs before now next header members member (Usage fault) same so_far
+    divided counted = absurd counted
+counted_stop contents trace topology setting epochs before now next header members member (ReadFault input) same so_far
+    divided counted = absurd counted
+counted_stop contents trace topology setting epochs before now next header members member (Topology fault) same so_far
+    divided counted = absurd counted
+counted_stop contents trace topology setting epochs before now next header members member (Trace fault) same so_far
+    divided counted =
+    stopped_at setting.division topology epochs.counts (contents trace) now.rest next header members member fault same
+    so_far divided counted
+counted_stop contents trace topology setting epochs before now next header members member (Certificate fault) same
+    so_far divided counted = absurd counted
+counted_stop contents trace topology setting epochs before now next header members member (Job fault) same so_far
+    divided counted = absurd counted
+counted_stop contents trace topology setting epochs before now next header members member SinkFault same so_far divided
+    counted = absurd counted
+counted_stop contents trace topology setting epochs before now next header members member Memory same so_far divided
+    counted = tt

@@ -56,7 +56,8 @@ mark_at setting items level = levels.is_dropped (levels_setting setting) (live_i
 
 -- a heap dropped a key
 unfoldable pub drops : Setting → List Item → Bool
-drops setting items = not (setting.heap == 0) && list_any (λ mark. mark) (map (mark_at setting items) (range_with_len 0 (setting.levels + 1)))
+drops setting items = not (setting.heap == 0) && list_any (λ mark. mark)
+    (map (mark_at setting items) (range_with_len 0 (setting.levels + 1)))
 
 -- how many keys a level keeps
 unfoldable pub heap_text : ℕ → List ℕ
@@ -65,7 +66,8 @@ heap_text heap = if heap == 0 then codes "all" else decimal heap
 -- the line of the packets: how many there are, how many have a key, and how many have a path
 unfoldable pub counts_line : ℕ → ℕ → ℕ → List ℕ
 counts_line packets keyed routed =
-    codes "packets " ++ (decimal packets ++ (codes " keyed " ++ (decimal keyed ++ (codes " routed " ++ (decimal routed ++ codes "\n")))))
+    codes "packets " ++ (decimal packets ++ (codes " keyed "
+    ++ (decimal keyed ++ (codes " routed " ++ (decimal routed ++ codes "\n")))))
 
 -- what a packet counts
 unfoldable pub weight_word : Bool → List ℕ
@@ -80,7 +82,8 @@ counter_words setting =
 -- how many keys a level keeps, and what a packet counts
 unfoldable pub kept_words : Setting → List ℕ
 kept_words setting =
-    codes " heap " ++ (heap_text setting.heap ++ (codes " weight " ++ (weight_word setting.division.bytes ++ codes "\n")))
+    codes " heap " ++ (heap_text setting.heap ++ (codes " weight "
+    ++ (weight_word setting.division.bytes ++ codes "\n")))
 
 -- the line of the sketch's numbers
 unfoldable pub sketch_line : Setting → List ℕ
@@ -91,8 +94,10 @@ unfoldable pub central_view : Setting → List Item → View
 central_view setting items = record {
   setting = levels_setting setting;
   weight = weight_of items;
-  counters = map (λ level. counters_of setting.seed level setting.rows setting.width (live_items setting.seed level items)) (range_with_len 0 (setting.levels + 1));
-  keys = map (λ level. kept_keys setting level (live_items setting.seed level items)) (range_with_len 0 (setting.levels + 1));
+  counters = map (λ level. counters_of setting.seed level setting.rows setting.width
+      (live_items setting.seed level items)) (range_with_len 0 (setting.levels + 1));
+  keys = map (λ level. kept_keys setting level (live_items setting.seed level items))
+      (range_with_len 0 (setting.levels + 1));
   dropped = drops setting items;
 }
 
@@ -119,7 +124,8 @@ epochs_lines setting routed number = flat_map (epoch_lines setting routed) (rang
 -- the text of the numbers of packets, of those that have a key and of those that have a path, and of the lines of epochs
 unfoldable pub lines_of : Setting → ℕ → ℕ → ℕ → List ℕ → List ℕ
 lines_of setting packets keyed routed epochs =
-    codes "univmon central 1\n" ++ (counts_line packets keyed routed ++ (sketch_line setting ++ (epochs ++ codes "end\n")))
+    codes "univmon central 1\n" ++ (counts_line packets keyed routed
+    ++ (sketch_line setting ++ (epochs ++ codes "end\n")))
 
 -- the text of a trace
 unfoldable pub central_text : Setting → Option Topo → Header → List Record → List ℕ

@@ -32,15 +32,17 @@ abbrev pub HasTopology : Contents → Option (List ℕ) → Type 0
 HasTopology contents name = (topology : Option Topo) × IsTopology contents name topology
 
 -- the text for contents that are a trace of some records none of which is late or heavy
-pub record IsReport (contents : Option (List ℕ)) (topology : Option Topo) (setting : Setting) (text : List ℕ) : Type 0 where
-  pub header : Header
-  pub members : List Record
-  pub is_trace : IfSome contents (λ bytes. IsTrace bytes header members)
-  pub divided : IsDivided setting.division header members
-  pub lines : text ≡ central_text setting topology header members
+pub record IsReport (contents : Option (List ℕ)) (topology : Option Topo) (setting : Setting) (text : List ℕ) : Type 0
+  where
+    pub header : Header
+    pub members : List Record
+    pub is_trace : IfSome contents (λ bytes. IsTrace bytes header members)
+    pub divided : IsDivided setting.division header members
+    pub lines : text ≡ central_text setting topology header members
 
 -- the text for a topology, where one is named, and a trace
-pub record IsCentral (contents : Contents) (trace : List ℕ) (name : Option (List ℕ)) (setting : Setting) (text : List ℕ) : Type 0 where
+pub record IsCentral (contents : Contents) (trace : List ℕ) (name : Option (List ℕ)) (setting : Setting)
+    (text : List ℕ) : Type 0 where
   pub topology : Option Topo
   pub read : IsTopology contents name topology
   pub report : IsReport (contents trace) topology setting text
@@ -102,7 +104,8 @@ central_duty contents trace name setting = record {
 -- the topology, where one is named, is told and has no fault
 abbrev pub HasToldTopology : Contents → Option (List ℕ) → Type 0
 HasToldTopology contents None = Unit {0}
-HasToldTopology contents (Some name) = HasBytes (contents name) (λ bytes. (topology : Topo) × (topology_of bytes ≡ Ok topology))
+HasToldTopology contents (Some name) = HasBytes (contents name)
+    (λ bytes. (topology : Topo) × (topology_of bytes ≡ Ok topology))
 
 -- the topology is told and has this fault
 abbrev pub HasToldUnfit : Contents → Option (List ℕ) → TopologyFault → Type 0

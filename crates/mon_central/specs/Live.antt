@@ -7,7 +7,8 @@ use Rattle.sketch_levels.specs.Items.{live_items, weight_of}
 -- each level where a key is live counts so much more
 pub record CountsLive (seed : ℕ) (key : List ℕ) (more : ℕ) (old new : List ℕ) : Type 0 where
   pub size : length new ≡ length old
-  pub each : (level : ℕ) → level < length old → slice_index new level ≡ slice_index old level + cond {A = ℕ} (is_live seed level key) more 0
+  pub each : (level : ℕ) → level < length old → slice_index new level ≡ slice_index old level + cond {A = ℕ} (is_live
+      seed level key) more 0
 
 -- the counts are those of a list of items
 pub record AreLive (seed : ℕ) (items : List Item) (live : List ℕ) : Type 0 where

@@ -55,7 +55,8 @@ pub record HasRoom (sketched : Sketched) (weight : ℕ) : Type 0 where
 
 -- one of so many levels has a mark
 abbrev pub any_mark : sketch.Setting → List Item → ℕ → Bool
-any_mark setting items number = list_any (λ mark. mark) (map (λ level. levels.is_dropped setting (live_items setting.seed level items)) (range_with_len 0 number))
+any_mark setting items number = list_any (λ mark. mark)
+    (map (λ level. levels.is_dropped setting (live_items setting.seed level items)) (range_with_len 0 number))
 
 -- what was sketched are at most 1,048,576 items
 pub record IsSketch (setting : Setting) (sketched : Sketched) : Type 0 where
@@ -70,11 +71,13 @@ counters_up_to view number = flat_map (λ level. (level_at view level).sketch.co
 
 -- the keys that are kept at each of so many levels
 abbrev pub keys_up_to : Setting → List Item → ℕ → List (List (List ℕ))
-keys_up_to setting items number = map (λ level. kept_keys setting level (live_items setting.seed level items)) (range_with_len 0 number)
+keys_up_to setting items number = map (λ level. kept_keys setting level (live_items setting.seed level items))
+    (range_with_len 0 number)
 
 -- each sketch is that of the items of its epoch, and no other epoch has items
 pub record Splits (setting : Setting) (sketches : List Sketched) (routed : List Routed) : Type 0 where
-  pub each : (epoch : ℕ) (d : Sketched) → epoch < length sketches → Sketches setting (slice_index_or sketches epoch d) (items_in epoch routed)
+  pub each : (epoch : ℕ) (d : Sketched) → epoch < length sketches
+      → Sketches setting (slice_index_or sketches epoch d) (items_in epoch routed)
   pub none : (epoch : ℕ) → length sketches ≤ epoch → items_in epoch routed ≡ []
 
 -- the sketches are those of fewer than 1,048,576 packets, which weigh at most 2^44 together with one of this weight
@@ -106,7 +109,8 @@ IsEarlier setting epoch earlier None = epoch ≡ 0
 IsEarlier setting epoch earlier (Some view) = (0 < epoch) × (view ≡ central_view setting earlier)
 
 -- what was sketched are these records
-pub record Divides (setting : Setting) (topology : Option Topo) (epochs : Epochs) (header : Header) (members : List Record) : Type 0 where
+pub record Divides (setting : Setting) (topology : Option Topo) (epochs : Epochs) (header : Header)
+    (members : List Record) : Type 0 where
   pub counts_are : AreCounts setting.division topology epochs.counts header members
   pub number_is : length epochs.sketches.items ≡ number_of_epochs setting.division.seconds header members
   pub splits : Splits setting epochs.sketches.items (routed_of setting.division topology header members)
@@ -119,7 +123,8 @@ pub record IsPart (setting : Setting) (topology : Option Topo) (epochs : Epochs)
   pub divides : Divides setting topology epochs header members
 
 -- what was sketched are fewer records than 1,048,576, and this packet with this key is of one more
-pub record IsNext (setting : Setting) (topology : Option Topo) (epochs : Epochs) (packet : Packet) (key : Option (List ℕ)) : Type 0 where
+pub record IsNext (setting : Setting) (topology : Option Topo) (epochs : Epochs) (packet : Packet)
+    (key : Option (List ℕ)) : Type 0 where
   pub header : Header
   pub members : List Record
   pub member : Record
@@ -130,7 +135,8 @@ pub record IsNext (setting : Setting) (topology : Option Topo) (epochs : Epochs)
 
 -- how counting one more record ended: with it behind the others, or where it is late or heavy
 abbrev pub Counted : Setting → Option Topo → Epochs → Header → List Record → Record → Result (Unit {0}) Status → Type 0
-Counted setting topology epochs header members member (Ok done) = Divides setting topology epochs header (members ++ member ∷ [])
+Counted setting topology epochs header members member (Ok done) = Divides setting topology epochs header
+    (members ++ member ∷ [])
 Counted setting topology epochs header members member (Err Done) = ⊥
 Counted setting topology epochs header members member (Err (Usage fault)) = ⊥
 Counted setting topology epochs header members member (Err (ReadFault input)) = ⊥
@@ -143,14 +149,16 @@ Counted setting topology epochs header members member (Err SinkFault) = ⊥
 Counted setting topology epochs header members member (Err Memory) = ⊤
 
 -- the same of any records so far, and one that is this packet, with this key
-abbrev pub Counts : Setting → Option Topo → Epochs → Epochs → Packet → Option (List ℕ) → Result (Unit {0}) Status → Type 0
+abbrev pub Counts : Setting → Option Topo → Epochs → Epochs → Packet → Option (List ℕ) → Result (Unit {0}) Status
+    → Type 0
 Counts setting topology old new packet key result =
     (header : Header) (members : List Record) (member : Record) → Divides setting topology old header members
     → packet ≡ packet_of header member → key ≡ frame_key header.link member.captured
     → Counted setting topology new header members member result
 
 -- what was sketched are the records of a trace
-pub record IsSketched (contents : Option (List ℕ)) (topology : Option Topo) (setting : Setting) (epochs : Epochs) : Type 0 where
+pub record IsSketched (contents : Option (List ℕ)) (topology : Option Topo) (setting : Setting) (epochs : Epochs) : Type
+    0 where
   pub header : Header
   pub members : List Record
   pub is_trace : IfSome contents (λ bytes. IsTrace bytes header members)

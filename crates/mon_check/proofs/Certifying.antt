@@ -30,14 +30,19 @@ long_only bytes long = record { reads = long; alone = alone }
     alone (Err cert.Memory) reads = absurd reads
 
 -- more bytes than a file of a certificate can have
-pub long_certificate : (contents now : Option (List ℕ)) (front : List ℕ) → length front ≡ text_limit + 1 → Took contents now front → AreRead contents (Err cert.TooLong)
-long_certificate contents None front size took = subst (λ (told : Option (List ℕ)). AreRead told (Err cert.TooLong)) (sym took.taken) tt
+pub long_certificate : (contents now : Option (List ℕ)) (front : List ℕ) → length front ≡ text_limit + 1
+    → Took contents now front → AreRead contents (Err cert.TooLong)
+long_certificate contents None front size took = subst (λ (told : Option (List ℕ)). AreRead told (Err cert.TooLong))
+    (sym took.taken) tt
 long_certificate contents (Some rest) front size took =
-    subst (λ (told : Option (List ℕ)). AreRead told (Err cert.TooLong)) (sym took.taken) (long_only (front ++ rest) (omega (arith, size, length-append front rest)))
+    subst (λ (told : Option (List ℕ)). AreRead told (Err cert.TooLong)) (sym took.taken)
+    (long_only (front ++ rest) (omega (arith, size, length-append front rest)))
 
 -- what the reading of a text gave is its one reading, unless memory ran out
-pub one_reading : (bytes : List ℕ) (result : Result Tree CertFault) → (result ≡ Err cert.Memory → ⊥) → (result ≡ Err cert.Memory) ⊎ ReadsText bytes result
-    → ((other : Result Tree CertFault) → ReadsText bytes other → (result ≡ Err cert.Memory) ⊎ (result ≡ other)) → ReadsOnly bytes result
+pub one_reading : (bytes : List ℕ) (result : Result Tree CertFault) → (result ≡ Err cert.Memory → ⊥)
+    → (result ≡ Err cert.Memory) ⊎ ReadsText bytes result
+    → ((other : Result Tree CertFault) → ReadsText bytes other → (result ≡ Err cert.Memory) ⊎ (result ≡ other))
+    → ReadsOnly bytes result
 one_reading bytes result kept (inl memory) alone = absurd (kept memory)
 one_reading bytes result kept (inr reads) alone = record {
   reads = reads;
@@ -48,11 +53,13 @@ one_reading bytes result kept (inr reads) alone = record {
 }
 
 -- the same of contents that are told
-pub are_read : (contents : Option (List ℕ)) (bytes : List ℕ) (result : Result Tree CertFault) → IfSome contents (λ told. bytes ≡ told) → ReadsOnly bytes result → AreRead contents result
+pub are_read : (contents : Option (List ℕ)) (bytes : List ℕ) (result : Result Tree CertFault)
+    → IfSome contents (λ told. bytes ≡ told) → ReadsOnly bytes result → AreRead contents result
 are_read None bytes result are only = tt
 are_read (Some told) bytes result are only = subst (λ (b : List ℕ). ReadsOnly b result) are only
 
-pub are_misspelled : (contents : Option (List ℕ)) (bytes : List ℕ) (fault : CertFault) → IfSome contents (λ told. bytes ≡ told) → ReadsOnly bytes (Err fault) → IsMisspelled contents fault
+pub are_misspelled : (contents : Option (List ℕ)) (bytes : List ℕ) (fault : CertFault)
+    → IfSome contents (λ told. bytes ≡ told) → ReadsOnly bytes (Err fault) → IsMisspelled contents fault
 are_misspelled contents bytes cert.TooLong are only = are_read contents bytes (Err cert.TooLong) are only
 are_misspelled contents bytes cert.NoTree are only = are_read contents bytes (Err cert.NoTree) are only
 are_misspelled contents bytes (cert.Line number) are only = are_read contents bytes (Err (cert.Line number)) are only
@@ -71,13 +78,19 @@ behind contents mid_contents topology tree topo before mid same spelled over = r
   };
   unfit = λ fault unfit. unfit;
   refused = λ fault refused. refused;
-  uncertified = λ fault has. (topo, spelled, subst (λ (f : Contents). HasCertFault (f tree) topo.problem fault) same has);
+  uncertified = λ fault has. (
+    topo,
+    spelled,
+    subst (λ (f : Contents). HasCertFault (f tree) topo.problem fault) same
+        has,
+  );
   misspelled = λ fault has. absurd has;
   left = left;
   once = λ now left. left;
 }
   where
-    left : (input : Input) (now : Option (List ℕ)) → tree_left mid_contents tree input mid.rest now → check_left contents topology tree input before.rest now
+    left : (input : Input) (now : Option (List ℕ)) → tree_left mid_contents tree input mid.rest now
+        → check_left contents topology tree input before.rest now
     left inputs.Topology now is = absurd is
     left inputs.Trace now is = absurd is
     left inputs.Tree now is = (
@@ -87,8 +100,10 @@ behind contents mid_contents topology tree topo before mid same spelled over = r
     left inputs.Job now is = absurd is
 
 -- a certificate that is not read or is misspelled
-pub uncertified : (contents : Contents) (tree : List ℕ) (problem : Problem) (call : Call) (status : Status) → IsSilent call
-    → (call.inputs.contents ≡ contents) → ReadsCertificate (contents tree) call.inputs call.inputs_after (Err status) → Answers (certify_duty contents tree problem) call status
+pub uncertified : (contents : Contents) (tree : List ℕ) (problem : Problem) (call : Call) (status : Status)
+    → IsSilent call
+    → (call.inputs.contents ≡ contents) → ReadsCertificate (contents tree) call.inputs call.inputs_after (Err status)
+    → Answers (certify_duty contents tree problem) call status
 uncertified contents tree problem call Done silent same reads = absurd reads
 uncertified contents tree problem call (Usage fault) silent same reads = absurd reads
 uncertified contents tree problem call (ReadFault inputs.Topology) silent same reads = absurd reads
@@ -109,8 +124,10 @@ uncertified contents tree problem call (Job fault) silent same reads = absurd re
 uncertified contents tree problem call SinkFault silent same reads = absurd reads
 uncertified contents tree problem call Memory silent same reads = silent
 
-pub picks_uncertified : (before after : List (List ℕ) → Type 0) (contents : Option (List ℕ)) (name : List ℕ) (call : Call) (status : Status)
-    → ReadsCertificate contents call.inputs call.inputs_after (Err status) → Picked before after (name ∷ []) → Picks before after (tree_reads name) status
+pub picks_uncertified : (before after : List (List ℕ) → Type 0) (contents : Option (List ℕ)) (name : List ℕ)
+    (call : Call) (status : Status)
+    → ReadsCertificate contents call.inputs call.inputs_after (Err status) → Picked before after (name ∷ [])
+    → Picks before after (tree_reads name) status
 picks_uncertified before after contents name call Done reads picked = absurd reads
 picks_uncertified before after contents name call (Usage fault) reads picked = absurd reads
 picks_uncertified before after contents name call (ReadFault inputs.Topology) reads picked = absurd reads

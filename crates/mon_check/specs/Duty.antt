@@ -64,14 +64,16 @@ check_duty contents topology tree = record {
   due = IsChecked contents topology tree;
   unfit = IsUnfit (contents topology);
   refused = λ fault. ⊥;
-  uncertified = λ fault. (topo : Topo) × SpellTopology (contents topology) topo × HasCertFault (contents tree) topo.problem fault;
+  uncertified = λ fault. (topo : Topo) × SpellTopology (contents topology) topo
+      × HasCertFault (contents tree) topo.problem fault;
   misspelled = λ fault. ⊥;
   left = check_left contents topology tree;
 }
 
 -- How reading a certificate ended: with that of the contents, or with the status of the call.
 abbrev pub ReadsCertificate : Option (List ℕ) → InputState → InputState → Result Tree Status → Type 0
-ReadsCertificate contents before now (Ok certificate) = IsTrue (is_formed certificate) × AreRead contents (Ok certificate)
+ReadsCertificate contents before now (Ok certificate) = IsTrue (is_formed certificate)
+    × AreRead contents (Ok certificate)
 ReadsCertificate contents before now (Err Done) = ⊥
 ReadsCertificate contents before now (Err (Usage fault)) = ⊥
 ReadsCertificate contents before now (Err (ReadFault inputs.Topology)) = ⊥
@@ -94,7 +96,8 @@ HasBoth topology contents P =
 -- bytes that spell a certificate without a wrong node
 abbrev pub IsCertificate : Problem → List ℕ → Type 0
 IsCertificate problem bytes =
-    (certificate : Tree) × ReadsText bytes (Ok certificate) × (first_fault problem 0 (visits problem certificate []) ≡ None)
+    (certificate : Tree) × ReadsText bytes (Ok certificate)
+    × (first_fault problem 0 (visits problem certificate []) ≡ None)
 
 -- bytes that spell no certificate, or one of which this node is the first wrong one
 abbrev pub IsNoCertificate : CertFault → Problem → List ℕ → Type 0
@@ -102,7 +105,8 @@ IsNoCertificate cert.TooLong problem bytes = ReadsText bytes (Err cert.TooLong)
 IsNoCertificate cert.NoTree problem bytes = ReadsText bytes (Err cert.NoTree)
 IsNoCertificate (cert.Line number) problem bytes = ReadsText bytes (Err (cert.Line number))
 IsNoCertificate (cert.Node node why) problem bytes =
-    (tree : Tree) × ReadsText bytes (Ok tree) × (first_fault problem 0 (visits problem tree []) ≡ Some (record { node = node; why = why }))
+    (tree : Tree) × ReadsText bytes (Ok tree) × (first_fault problem 0 (visits problem tree []) ≡ Some
+    (record { node = node; why = why }))
 IsNoCertificate cert.Memory problem bytes = ⊥
 
 -- what is read is told, and so is this status: that it has no fault, or its first one
@@ -110,9 +114,11 @@ abbrev pub TellsCheck : Contents → List ℕ → List ℕ → Status → Type 0
 TellsCheck contents topology tree Done = HasBoth (contents topology) (contents tree) IsCertificate
 TellsCheck contents topology tree (Usage fault) = ⊥
 TellsCheck contents topology tree (ReadFault input) = ⊥
-TellsCheck contents topology tree (Topology fault) = HasBytes (contents topology) (λ bytes. topology_of bytes ≡ Err fault)
+TellsCheck contents topology tree (Topology fault) = HasBytes (contents topology)
+    (λ bytes. topology_of bytes ≡ Err fault)
 TellsCheck contents topology tree (Trace fault) = ⊥
-TellsCheck contents topology tree (Certificate fault) = HasBoth (contents topology) (contents tree) (IsNoCertificate fault)
+TellsCheck contents topology tree (Certificate fault) = HasBoth (contents topology) (contents tree)
+    (IsNoCertificate fault)
 TellsCheck contents topology tree (Job fault) = ⊥
 TellsCheck contents topology tree SinkFault = ⊥
 TellsCheck contents topology tree Memory = ⊥

@@ -18,7 +18,8 @@ use Rattle.mon_command.specs.Asked.{Asked, Total, Central, Check, Child}
 use Rattle.mon_command.specs.Outcome.{IsCalm, Outcome, Tells, duty_of}
 use Rattle.mon_command.specs.Total.{TellsTotal, total_duty}
 
-when_accepted : (contents : Option (List ℕ)) (trace : List ℕ) (status : Status) → TellsTotal contents Done → Shows (total_duty contents trace) status → status ≡ Done
+when_accepted : (contents : Option (List ℕ)) (trace : List ℕ) (status : Status) → TellsTotal contents Done
+    → Shows (total_duty contents trace) status → status ≡ Done
 when_accepted contents trace Done told shows = refl
 when_accepted contents trace (Usage fault) told shows = absurd shows
 when_accepted contents trace (ReadFault input) told shows = absurd shows
@@ -33,7 +34,8 @@ when_accepted contents trace (Job fault) told shows = absurd shows
 when_accepted contents trace SinkFault told shows = absurd shows
 when_accepted contents trace Memory told shows = absurd shows
 
-when_broken : (contents : Option (List ℕ)) (trace : List ℕ) (fault : PcapFault) (status : Status) → TellsTotal contents (Trace (Pcap fault))
+when_broken : (contents : Option (List ℕ)) (trace : List ℕ) (fault : PcapFault) (status : Status)
+    → TellsTotal contents (Trace (Pcap fault))
     → Shows (total_duty contents trace) status → status ≡ Trace (Pcap fault)
 when_broken contents trace fault Done told shows =
     let due = shows.1 in
@@ -52,12 +54,16 @@ when_broken contents trace fault (Job other) told shows = absurd shows
 when_broken contents trace fault SinkFault told shows = absurd shows
 when_broken contents trace fault Memory told shows = absurd shows
 
-total_told : (contents : Option (List ℕ)) (trace : List ℕ) (wanted : Status) → TellsTotal contents wanted → IsTold (total_duty contents trace) wanted
+total_told : (contents : Option (List ℕ)) (trace : List ℕ) (wanted : Status) → TellsTotal contents wanted
+    → IsTold (total_duty contents trace) wanted
 total_told contents trace Done told = record { alone = λ status shows. when_accepted contents trace status told shows }
 total_told contents trace (Usage fault) told = absurd told
 total_told contents trace (ReadFault input) told = absurd told
 total_told contents trace (Topology fault) told = absurd told
-total_told contents trace (Trace (Pcap fault)) told = record { alone = λ status shows. when_broken contents trace fault status told shows }
+total_told contents trace (Trace (Pcap fault)) told = record {
+  alone = λ status shows. when_broken contents trace fault
+      status told shows;
+}
 total_told contents trace (Trace (Epochs number index)) told = absurd told
 total_told contents trace (Trace (Weight number)) told = absurd told
 total_told contents trace (Certificate fault) told = absurd told
@@ -65,14 +71,19 @@ total_told contents trace (Job fault) told = absurd told
 total_told contents trace SinkFault told = absurd told
 total_told contents trace Memory told = absurd told
 
-is_told : (asked : Asked) (call : Call) (wanted : Status) → Tells call asked wanted → IsTold (duty_of call.inputs.contents asked) wanted
+is_told : (asked : Asked) (call : Call) (wanted : Status) → Tells call asked wanted
+    → IsTold (duty_of call.inputs.contents asked) wanted
 is_told (Total trace) call wanted told = total_told (call.inputs.contents trace) trace wanted told
-is_told (Central trace topology setting) call wanted told = central_told call.inputs.contents trace topology setting wanted told
+is_told (Central trace topology setting) call wanted told = central_told call.inputs.contents trace topology setting
+    wanted told
 is_told (Check topology tree) call wanted told = check_told call.inputs.contents topology tree wanted told
 is_told Child call wanted told = child_told (call.inputs.contents (codes "-")) wanted told
 
-pub answers_told : (before after : List (List ℕ) → Type 0) (read : Result Asked UsageFault) (asked : Asked) (call : Call) (wanted status : Status)
-    → Outcome before after read call status → IsCalm read asked call → Tells call asked wanted → UnlessMemory wanted status
+pub answers_told : (before after : List (List ℕ) → Type 0) (read : Result Asked UsageFault) (asked : Asked)
+    (call : Call) (wanted status : Status)
+    → Outcome before after read call status → IsCalm read asked call → Tells call asked wanted
+    → UnlessMemory wanted status
 answers_told before after read asked call wanted status outcome calm told =
     let answered = subst (λ (r : Result Asked UsageFault). Outcome before after r call status) calm.taken outcome in
-    tells (duty_of call.inputs.contents asked) call wanted status (is_told asked call wanted told) calm.smooth answered.answers
+    tells (duty_of call.inputs.contents asked) call wanted status (is_told asked call wanted told) calm.smooth
+    answered.answers

@@ -38,14 +38,17 @@ Tells call (Check topology tree) status = TellsCheck call.inputs.contents topolo
 Tells call Child status = TellsChild (call.inputs.contents (codes "-")) status
 
 -- each status with its cause, and the inputs that were picked
-pub record Answered (before after : List (List ℕ) → Type 0) (asked : Asked) (call : Call) (status : Status) : Type 0 where
-  pub answers : Answers (duty_of call.inputs.contents asked) call status
-  pub picks : Picks before after (reads_of asked) status
+pub record Answered (before after : List (List ℕ) → Type 0) (asked : Asked) (call : Call) (status : Status) : Type 0
+  where
+    pub answers : Answers (duty_of call.inputs.contents asked) call status
+    pub picks : Picks before after (reads_of asked) status
 
 -- a call is answered by its words, and else by what they ask for; want of memory is free
-abbrev pub Outcome : (List (List ℕ) → Type 0) → (List (List ℕ) → Type 0) → Result Asked UsageFault → Call → Status → Type 0
+abbrev pub Outcome : (List (List ℕ) → Type 0) → (List (List ℕ) → Type 0) → Result Asked UsageFault → Call → Status
+    → Type 0
 Outcome before after (Ok asked) call status = Answered before after asked call status
-Outcome before after (Err fault) call status = UnlessMemory (Usage fault) status × IsSilent call × PickedNothing before after
+Outcome before after (Err fault) call status = UnlessMemory (Usage fault) status × IsSilent call
+    × PickedNothing before after
 
 -- the words are taken, and no count of faults rose
 pub record IsCalm (read : Result Asked UsageFault) (asked : Asked) (call : Call) : Type 0 where

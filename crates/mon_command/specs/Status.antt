@@ -43,8 +43,10 @@ nibble number = radix_digits 16 false number
 -- eight lower-case hexadecimal digits of a number of 32 bits
 unfoldable pub eight_digits : ℕ → List ℕ
 eight_digits number =
-    nibble (number / 268435456) ++ (nibble (number / 16777216 % 16) ++ (nibble (number / 1048576 % 16) ++ (nibble (number / 65536 % 16)
-    ++ (nibble (number / 4096 % 16) ++ (nibble (number / 256 % 16) ++ (nibble (number / 16 % 16) ++ nibble (number % 16)))))))
+    nibble (number / 268435456) ++ (nibble (number / 16777216 % 16)
+    ++ (nibble (number / 1048576 % 16) ++ (nibble (number / 65536 % 16)
+    ++ (nibble (number / 4096 % 16) ++ (nibble (number / 256 % 16)
+    ++ (nibble (number / 16 % 16) ++ nibble (number % 16)))))))
 
 abbrev pub usage_line : UsageFault → List ℕ
 usage_line NoCommand = codes "univmon: usage: no command"
@@ -55,15 +57,18 @@ usage_line (Value option) = codes "univmon: usage: value of " ++ name_of option
 abbrev pub pcap_line : PcapFault → List ℕ
 pcap_line (pcap.ShortHeader at) = codes "univmon: trace: short header at " ++ decimal at
 pcap_line (pcap.NotClassic magic) = codes "univmon: trace: not classic " ++ eight_digits magic
-pcap_line (pcap.Version major minor) = codes "univmon: trace: version " ++ (decimal major ++ (codes " " ++ decimal minor))
+pcap_line (pcap.Version major minor) = codes "univmon: trace: version "
+    ++ (decimal major ++ (codes " " ++ decimal minor))
 pcap_line (pcap.Link number) = codes "univmon: trace: link " ++ decimal number
 pcap_line (pcap.ShortRecord at) = codes "univmon: trace: short record at " ++ decimal at
-pcap_line (pcap.LongRecord at length) = codes "univmon: trace: long record at " ++ (decimal at ++ (codes " length " ++ decimal length))
+pcap_line (pcap.LongRecord at length) = codes "univmon: trace: long record at "
+    ++ (decimal at ++ (codes " length " ++ decimal length))
 pcap_line pcap.TooMany = codes "univmon: trace: too many records"
 
 abbrev pub trace_line : TraceFault → List ℕ
 trace_line (Pcap fault) = pcap_line fault
-trace_line (Epochs number index) = codes "univmon: trace: epoch " ++ (decimal index ++ (codes " at record " ++ decimal number))
+trace_line (Epochs number index) = codes "univmon: trace: epoch "
+    ++ (decimal index ++ (codes " at record " ++ decimal number))
 trace_line (Weight number) = codes "univmon: trace: weight at record " ++ decimal number
 
 abbrev pub entry_word : Entry → List ℕ
@@ -84,7 +89,8 @@ what_word what.Via = codes "via"
 -- what is wrong with a value of an entry
 unfoldable pub value_line : List ℕ → Entry → ℕ → What → List ℕ
 value_line words e index w =
-    codes "univmon: topology: " ++ (words ++ (codes " " ++ (entry_word e ++ (codes " " ++ (decimal index ++ (codes " " ++ what_word w))))))
+    codes "univmon: topology: " ++ (words
+    ++ (codes " " ++ (entry_word e ++ (codes " " ++ (decimal index ++ (codes " " ++ what_word w))))))
 
 -- what is wrong with the name of an entry
 unfoldable pub name_line : List ℕ → Entry → ℕ → List ℕ

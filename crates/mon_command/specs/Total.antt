@@ -71,7 +71,8 @@ TellsTotal contents Done = HasBytes contents HasTrace
 TellsTotal contents (Usage fault) = ⊥
 TellsTotal contents (ReadFault input) = ⊥
 TellsTotal contents (Topology fault) = ⊥
-TellsTotal contents (Trace (Pcap fault)) = HasBytes contents (λ bytes. (members : List Record) × Broken bytes members fault)
+TellsTotal contents (Trace (Pcap fault)) = HasBytes contents
+    (λ bytes. (members : List Record) × Broken bytes members fault)
 TellsTotal contents (Trace (Epochs number index)) = ⊥
 TellsTotal contents (Trace (Weight number)) = ⊥
 TellsTotal contents (Certificate fault) = ⊥

@@ -100,7 +100,8 @@ pub went_past : {contents rest mid now : Option (List ℕ)} {reader old new : Pc
     → length head ≡ 16 → n ≡ number_32 reader.header.order head 8 → n ≤ 262144 → length captured ≡ n
     → reader.count < 1048576
     → SoFar contents now new (members ++ record { head = head; captured = captured } ∷ [])
-went_past {reader = reader} {new = new} {members = members} head captured n so_far first second past header count at stop
+went_past {reader = reader} {new = new} {members = members} head captured n so_far first second past header count at
+    stop
     size says fits captures room =
     record {
       front = so_far.front ++ (head ++ captured);

@@ -15,23 +15,29 @@ pub out-cons : (a : Attempt) (outs : List Attempt) (t : ℕ) → is_out (a ∷ o
 unfolding is_out
 out-cons a outs t = refl
 
-pub tickets-cons : (a : Attempt) (outs : List Attempt) (job : ℕ) → tickets_of (a ∷ outs) job ≡ cond (a.job == job) 1 0 + tickets_of outs job
+pub tickets-cons : (a : Attempt) (outs : List Attempt) (job : ℕ)
+    → tickets_of (a ∷ outs) job ≡ cond (a.job == job) 1 0 + tickets_of outs job
 unfolding tickets_of
 tickets-cons a outs job = sum_by-cons (λ (x : Attempt). cond (x.job == job) 1 0) a outs
 
-map_cond : {A B : Type 0} (f : A → B) (b : Bool) (x : A) (rest : Option A) → option_map f (cond b (Some x) rest) ≡ cond b (Some (f x)) (option_map f rest)
+map_cond : {A B : Type 0} (f : A → B) (b : Bool) (x : A) (rest : Option A)
+    → option_map f (cond b (Some x) rest) ≡ cond b (Some (f x)) (option_map f rest)
 map_cond f true x rest = refl
 map_cond f false x rest = refl
 
-pub job-cons : (a : Attempt) (outs : List Attempt) (t : ℕ) → job_of (a ∷ outs) t ≡ cond (a.ticket == t) (Some a.job) (job_of outs t)
+pub job-cons : (a : Attempt) (outs : List Attempt) (t : ℕ)
+    → job_of (a ∷ outs) t ≡ cond (a.ticket == t) (Some a.job) (job_of outs t)
 unfolding job_of
 job-cons a outs t = map_cond (λ (x : Attempt). x.job) (a.ticket == t) a (find (λ (x : Attempt). x.ticket == t) outs)
 
-pub ticket-cons : (a : Attempt) (outs : List Attempt) (job : ℕ) → ticket_of (a ∷ outs) job ≡ cond (a.job == job) (Some a.ticket) (ticket_of outs job)
+pub ticket-cons : (a : Attempt) (outs : List Attempt) (job : ℕ)
+    → ticket_of (a ∷ outs) job ≡ cond (a.job == job) (Some a.ticket) (ticket_of outs job)
 unfolding ticket_of
-ticket-cons a outs job = map_cond (λ (x : Attempt). x.ticket) (a.job == job) a (find (λ (x : Attempt). x.job == job) outs)
+ticket-cons a outs job = map_cond (λ (x : Attempt). x.ticket) (a.job == job) a
+    (find (λ (x : Attempt). x.job == job) outs)
 
-pub without-cons : (t : ℕ) (a : Attempt) (outs : List Attempt) → without t (a ∷ outs) ≡ cond (a.ticket == t) outs (a ∷ without t outs)
+pub without-cons : (t : ℕ) (a : Attempt) (outs : List Attempt)
+    → without t (a ∷ outs) ≡ cond (a.ticket == t) outs (a ∷ without t outs)
 unfolding without
 without-cons t a outs = refl
 
@@ -58,38 +64,48 @@ without-nil t = refl
 -- one attempt more at the end
 pub out-push : (outs : List Attempt) (t job s : ℕ) → is_out (outs ++ attempt t job ∷ []) s ≡ (is_out outs s || t == s)
 unfolding is_out
-out-push outs t job s = list_any-append (λ (a : Attempt). a.ticket == s) outs (attempt t job ∷ []) ∙ ap (λ (b : Bool). is_out outs s || b) (elim (t == s) as (λ b. (b || false) ≡ b) [ true ↦ refl | false ↦ refl ])
+out-push outs t job s = list_any-append (λ (a : Attempt). a.ticket == s) outs (attempt t job ∷ [])
+    ∙ ap (λ (b : Bool). is_out outs s || b) (elim (t == s) as (λ b. (b || false) ≡ b) [ true ↦ refl | false ↦ refl ])
 
-pub tickets-push : (outs : List Attempt) (t job j : ℕ) → tickets_of (outs ++ attempt t job ∷ []) j ≡ tickets_of outs j + cond (job == j) 1 0
+pub tickets-push : (outs : List Attempt) (t job j : ℕ)
+    → tickets_of (outs ++ attempt t job ∷ []) j ≡ tickets_of outs j + cond (job == j) 1 0
 unfolding tickets_of
 tickets-push outs t job j = sum_by_push (λ (a : Attempt). cond (a.job == j) 1 0) outs (attempt t job)
 
 -- whether a ticket is out, by its job
 pub out-job : (outs : List Attempt) (t : ℕ) → is_out outs t ≡ is_some (job_of outs t)
 out-job [] t = rw (out-nil, job-nil) refl
-out-job (a ∷ outs) t = rw (out-cons, job-cons, out-job outs t) (elim (a.ticket == t) as (λ b. (b || is_some (job_of outs t)) ≡ is_some (cond b (Some a.job) (job_of outs t))) [ true ↦ refl | false ↦ refl ])
+out-job (a ∷ outs) t = rw (out-cons, job-cons, out-job outs t)
+    (elim (a.ticket == t) as (λ b. (b || is_some (job_of outs t)) ≡ is_some (cond b (Some a.job) (job_of outs t)))
+    [ true ↦ refl | false ↦ refl ])
 
 -- one attempt fewer
-pub tickets-without : (outs : List Attempt) (t job j : ℕ) → job_of outs t ≡ Some job → tickets_of (without t outs) j + cond (job == j) 1 0 ≡ tickets_of outs j
+pub tickets-without : (outs : List Attempt) (t job j : ℕ) → job_of outs t ≡ Some job
+    → tickets_of (without t outs) j + cond (job == j) 1 0 ≡ tickets_of outs j
 tickets-without [] t job j h = absurd (none-some job (sym (job-nil t) ∙ h))
 tickets-without (a ∷ outs) t job j h = elim (cases_Bool (a.ticket == t)) [
   | inl here ↦
-      let same : a.job ≡ job = same_Some a.job job (sym (job-cons a outs t ∙ ap (λ (b : Bool). cond b (Some a.job) (job_of outs t)) here) ∙ h) in
+      let same : a.job ≡ job = same_Some a.job job (sym
+      (job-cons a outs t ∙ ap (λ (b : Bool). cond b (Some a.job) (job_of outs t)) here) ∙ h) in
       rw (without-cons, here, tickets-cons, same) (omega arith)
   | inr apart ↦
-      let rest : job_of outs t ≡ Some job = sym (job-cons a outs t ∙ ap (λ (b : Bool). cond b (Some a.job) (job_of outs t)) apart) ∙ h in
+      let rest : job_of outs t ≡ Some job = sym (job-cons a outs t
+      ∙ ap (λ (b : Bool). cond b (Some a.job) (job_of outs t)) apart) ∙ h in
       let more = tickets-without outs t job j rest in
       let step : tickets_of (without t (a ∷ outs)) j ≡ cond {A = ℕ} (a.job == j) 1 0 + tickets_of (without t outs) j =
-      ap (λ xs. tickets_of xs j) (without-cons t a outs ∙ ap (λ (b : Bool). cond b outs (a ∷ without t outs)) apart) ∙ tickets-cons a (without t outs) j in
+      ap (λ xs. tickets_of xs j) (without-cons t a outs ∙ ap (λ (b : Bool). cond b outs (a ∷ without t outs)) apart)
+      ∙ tickets-cons a (without t outs) j in
       omega (arith, step, more, tickets-cons a outs j)
 ]
 
-pub length-without : (outs : List Attempt) (t job : ℕ) → job_of outs t ≡ Some job → length (without t outs) + 1 ≡ length outs
+pub length-without : (outs : List Attempt) (t job : ℕ) → job_of outs t ≡ Some job
+    → length (without t outs) + 1 ≡ length outs
 length-without [] t job h = absurd (none-some job (sym (job-nil t) ∙ h))
 length-without (a ∷ outs) t job h = elim (cases_Bool (a.ticket == t)) [
   | inl here ↦ rw (without-cons, here) (omega arith)
   | inr apart ↦
-      let rest : job_of outs t ≡ Some job = sym (job-cons a outs t ∙ ap (λ (b : Bool). cond b (Some a.job) (job_of outs t)) apart) ∙ h in
+      let rest : job_of outs t ≡ Some job = sym (job-cons a outs t
+      ∙ ap (λ (b : Bool). cond b (Some a.job) (job_of outs t)) apart) ∙ h in
       let more = length-without outs t job rest in
       rw (without-cons, apart) (omega (arith, more))
 ]
@@ -98,9 +114,11 @@ length-without (a ∷ outs) t job h = elim (cases_Bool (a.ticket == t)) [
 pub without-none : (outs : List Attempt) (t : ℕ) → job_of outs t ≡ None → without t outs ≡ outs
 without-none [] t h = without-nil t
 without-none (a ∷ outs) t h = elim (cases_Bool (a.ticket == t)) [
-  | inl here ↦ absurd (none-some a.job (sym h ∙ job-cons a outs t ∙ ap (λ (b : Bool). cond b (Some a.job) (job_of outs t)) here))
+  | inl here ↦ absurd (none-some a.job (sym h ∙ job-cons a outs t
+      ∙ ap (λ (b : Bool). cond b (Some a.job) (job_of outs t)) here))
   | inr apart ↦
-      let rest : job_of outs t ≡ None = sym (job-cons a outs t ∙ ap (λ (b : Bool). cond b (Some a.job) (job_of outs t)) apart) ∙ h in
+      let rest : job_of outs t ≡ None = sym (job-cons a outs t
+      ∙ ap (λ (b : Bool). cond b (Some a.job) (job_of outs t)) apart) ∙ h in
       rw (without-cons, apart) (ap (λ xs. a ∷ xs) (without-none outs t rest))
 ]
 
@@ -122,24 +140,34 @@ pub attempts-without : (n m : ℕ) (outs : List Attempt) (t : ℕ) → AreAttemp
 attempts-without n m [] t h = rw without-nil h
 attempts-without n m (a ∷ outs) t h = elim (cases_Bool (a.ticket == t)) [
   | inl here ↦ rw (without-cons, here) h.3
-  | inr apart ↦ rw (without-cons, apart) (h.0, h.1, out-without_other outs t a.ticket h.2, attempts-without n m outs t h.3)
+  | inr apart ↦ rw (without-cons, apart) (
+    h.0,
+    h.1,
+    out-without_other outs t a.ticket h.2,
+    attempts-without n m outs t
+        h.3,
+  )
 ]
 
 -- exactly the ticket is out no longer
-pub out-without : (n m : ℕ) (outs : List Attempt) (t s : ℕ) → AreAttempts n m outs → is_out (without t outs) s ≡ (not (s == t) && is_out outs s)
-out-without n m [] t s h = rw (without-nil, out-nil) (elim (s == t) as (λ b. false ≡ (not b && false)) [ true ↦ refl | false ↦ refl ])
+pub out-without : (n m : ℕ) (outs : List Attempt) (t s : ℕ) → AreAttempts n m outs
+    → is_out (without t outs) s ≡ (not (s == t) && is_out outs s)
+out-without n m [] t s h = rw (without-nil, out-nil)
+    (elim (s == t) as (λ b. false ≡ (not b && false)) [ true ↦ refl | false ↦ refl ])
 out-without n m (a ∷ outs) t s h = elim (cases_Bool (a.ticket == t)) [
   | inl here ↦ rw (without-cons, here, out-cons) (elim (cases_Bool (s == t)) [
     | inl same ↦
         let e : s ≡ a.ticket = eqb-true s t same ∙ sym (eqb-true a.ticket t here) in
         rw same (ap (λ k. is_out outs k) e ∙ h.2)
     | inr differs ↦
-        let other : (a.ticket == s) ≡ false = ne_eqb a.ticket s (λ e. eqb-false s t differs (sym e ∙ eqb-true a.ticket t here)) in
+        let other : (a.ticket == s) ≡ false = ne_eqb a.ticket s
+        (λ e. eqb-false s t differs (sym e ∙ eqb-true a.ticket t here)) in
         rw (differs, other) refl
   ])
   | inr apart ↦ rw (without-cons, apart, out-cons, out-cons, out-without n m outs t s h.3) (elim (cases_Bool (s == t)) [
     | inl same ↦
-        let other : (a.ticket == s) ≡ false = ne_eqb a.ticket s (λ e. eqb-false a.ticket t apart (e ∙ eqb-true s t same)) in
+        let other : (a.ticket == s) ≡ false = ne_eqb a.ticket s
+        (λ e. eqb-false a.ticket t apart (e ∙ eqb-true s t same)) in
         rw (same, other) refl
     | inr differs ↦ rw differs refl
   ])
@@ -156,7 +184,8 @@ out-below n m (a ∷ outs) h =
     let apart : (a.ticket == n) ≡ false = ne_eqb a.ticket n (λ e. omega (arith, e, h.0)) in
     rw (out-cons, apart) (out-below n m outs h.3)
 
-pub attempts-push : (n m : ℕ) (outs : List Attempt) (job : ℕ) → job < m → AreAttempts n m outs → AreAttempts (n + 1) m (outs ++ attempt n job ∷ [])
+pub attempts-push : (n m : ℕ) (outs : List Attempt) (job : ℕ) → job < m → AreAttempts n m outs
+    → AreAttempts (n + 1) m (outs ++ attempt n job ∷ [])
 attempts-push n m [] job known h = (omega arith, known, out-nil n, tt)
 attempts-push n m (a ∷ outs) job known h =
     let apart : (n == a.ticket) ≡ false = ne_eqb n a.ticket (λ e. omega (arith, e, h.0)) in
@@ -166,30 +195,37 @@ pub job-known : (n m : ℕ) (outs : List Attempt) (t job : ℕ) → AreAttempts 
 job-known n m [] t job h is = absurd (none-some job (sym (job-nil t) ∙ is))
 job-known n m (a ∷ outs) t job h is = elim (cases_Bool (a.ticket == t)) [
   | inl here ↦
-      let same : a.job ≡ job = same_Some a.job job (sym (job-cons a outs t ∙ ap (λ (b : Bool). cond b (Some a.job) (job_of outs t)) here) ∙ is) in
+      let same : a.job ≡ job = same_Some a.job job (sym
+      (job-cons a outs t ∙ ap (λ (b : Bool). cond b (Some a.job) (job_of outs t)) here) ∙ is) in
       subst (λ (k : ℕ). k < m) same h.1
-  | inr apart ↦ job-known n m outs t job h.3 (sym (job-cons a outs t ∙ ap (λ (b : Bool). cond b (Some a.job) (job_of outs t)) apart) ∙ is)
+  | inr apart ↦ job-known n m outs t job h.3 (sym
+      (job-cons a outs t ∙ ap (λ (b : Bool). cond b (Some a.job) (job_of outs t)) apart) ∙ is)
 ]
 
 -- the first ticket of a job
 pub ticket-none : (outs : List Attempt) (job : ℕ) → ticket_of outs job ≡ None → tickets_of outs job ≡ 0
 ticket-none [] job h = tickets-nil job
 ticket-none (a ∷ outs) job h = elim (cases_Bool (a.job == job)) [
-  | inl here ↦ absurd (none-some a.ticket (sym h ∙ ticket-cons a outs job ∙ ap (λ (b : Bool). cond b (Some a.ticket) (ticket_of outs job)) here))
+  | inl here ↦ absurd (none-some a.ticket (sym h ∙ ticket-cons a outs job
+      ∙ ap (λ (b : Bool). cond b (Some a.ticket) (ticket_of outs job)) here))
   | inr apart ↦
-      let rest = ticket-none outs job (sym (ticket-cons a outs job ∙ ap (λ (b : Bool). cond b (Some a.ticket) (ticket_of outs job)) apart) ∙ h) in
+      let rest = ticket-none outs job (sym
+      (ticket-cons a outs job ∙ ap (λ (b : Bool). cond b (Some a.ticket) (ticket_of outs job)) apart) ∙ h) in
       rw (tickets-cons, apart) (omega (arith, rest))
 ]
 
-pub ticket-job : (n m : ℕ) (outs : List Attempt) (job t : ℕ) → AreAttempts n m outs → ticket_of outs job ≡ Some t → job_of outs t ≡ Some job
+pub ticket-job : (n m : ℕ) (outs : List Attempt) (job t : ℕ) → AreAttempts n m outs → ticket_of outs job ≡ Some t
+    → job_of outs t ≡ Some job
 ticket-job n m [] job t h is = absurd (none-some t (sym (ticket-nil job) ∙ is))
 ticket-job n m (a ∷ outs) job t h is = elim (cases_Bool (a.job == job)) [
   | inl here ↦
-      let same : a.ticket ≡ t = same_Some a.ticket t (sym (ticket-cons a outs job ∙ ap (λ (b : Bool). cond b (Some a.ticket) (ticket_of outs job)) here) ∙ is) in
+      let same : a.ticket ≡ t = same_Some a.ticket t (sym
+      (ticket-cons a outs job ∙ ap (λ (b : Bool). cond b (Some a.ticket) (ticket_of outs job)) here) ∙ is) in
       let found : (a.ticket == t) ≡ true = eq-eqb a.ticket t same in
       rw (job-cons, found) (ap (λ (k : ℕ). Some k) (eqb-true a.job job here))
   | inr apart ↦
-      let rest : job_of outs t ≡ Some job = ticket-job n m outs job t h.3 (sym (ticket-cons a outs job ∙ ap (λ (b : Bool). cond b (Some a.ticket) (ticket_of outs job)) apart) ∙ is) in
+      let rest : job_of outs t ≡ Some job = ticket-job n m outs job t h.3
+      (sym (ticket-cons a outs job ∙ ap (λ (b : Bool). cond b (Some a.ticket) (ticket_of outs job)) apart) ∙ is) in
       elim (cases_Bool (a.ticket == t)) [
         | inl found ↦
             let out : is_out outs t ≡ true = out-job outs t ∙ ap (λ o. is_some o) rest in
@@ -199,10 +235,14 @@ ticket-job n m (a ∷ outs) job t h is = elim (cases_Bool (a.job == job)) [
 ]
 
 -- what is left once the first place of a ticket is removed
-place-apart : (a : Attempt) (outs : List Attempt) (t : ℕ) → (a.ticket == t) ≡ false → position_or_len (λ (a : Attempt). a.ticket == t) (a ∷ outs) ≡ suc (position_or_len (λ (a : Attempt). a.ticket == t) outs)
-place-apart a outs t apart = ap (λ (b : Bool). cond {A = ℕ} (not b) (1 + position_or_len (λ (a : Attempt). a.ticket == t) outs) 0) apart ∙ one-add _
+place-apart : (a : Attempt) (outs : List Attempt) (t : ℕ) → (a.ticket == t) ≡ false
+    → position_or_len (λ (a : Attempt). a.ticket == t) (a ∷ outs) ≡ suc
+    (position_or_len (λ (a : Attempt). a.ticket == t) outs)
+place-apart a outs t apart = ap (λ (b : Bool). cond {A = ℕ} (not b)
+    (1 + position_or_len (λ (a : Attempt). a.ticket == t) outs) 0) apart ∙ one-add _
 
-pub without-at : (outs : List Attempt) (t : ℕ) → position_or_len (λ (a : Attempt). a.ticket == t) outs < length outs → remove outs (position_or_len (λ (a : Attempt). a.ticket == t) outs) ≡ without t outs
+pub without-at : (outs : List Attempt) (t : ℕ) → position_or_len (λ (a : Attempt). a.ticket == t) outs < length outs
+    → remove outs (position_or_len (λ (a : Attempt). a.ticket == t) outs) ≡ without t outs
 without-at [] t below = absurd (omega arith)
 without-at (a ∷ outs) t below = elim (cases_Bool (a.ticket == t)) [
   | inl here ↦ rw (without-cons, here) refl
@@ -213,10 +253,15 @@ without-at (a ∷ outs) t below = elim (cases_Bool (a.ticket == t)) [
       ∙ sym (without-cons t a outs ∙ ap (λ (b : Bool). cond b outs (a ∷ without t outs)) apart)
 ]
 
-pub without-nowhere : (outs : List Attempt) (t : ℕ) → length outs ≤ position_or_len (λ (a : Attempt). a.ticket == t) outs → outs ≡ without t outs
+pub without-nowhere : (outs : List Attempt) (t : ℕ)
+    → length outs ≤ position_or_len (λ (a : Attempt). a.ticket == t) outs → outs ≡ without t outs
 without-nowhere [] t far = sym (without-nil t)
 without-nowhere (a ∷ outs) t far = elim (cases_Bool (a.ticket == t)) [
-  | inl here ↦ absurd (omega (arith, far, ap (λ (b : Bool). cond {A = ℕ} (not b) (1 + position_or_len (λ (a : Attempt). a.ticket == t) outs) 0) here))
+  | inl here ↦ absurd (omega (
+    arith,
+    far,
+    ap (λ (b : Bool). cond {A = ℕ} (not b) (1 + position_or_len (λ (a : Attempt). a.ticket == t) outs) 0) here,
+  ))
   | inr apart ↦
       let step = place-apart a outs t apart in
       ap (λ xs. a ∷ xs) (without-nowhere outs t (omega (arith, step, far)))
@@ -237,11 +282,14 @@ pub out-known : (outs : List Attempt) (t : ℕ) → IsSome (job_of outs t) → (
 out-known outs t h = some-known (job_of outs t) h
 
 -- the job of a ticket that was just started
-pub job-push : (outs : List Attempt) (t job : ℕ) → is_out outs t ≡ false → job_of (outs ++ attempt t job ∷ []) t ≡ Some job
-job-push [] t job h = job-cons (attempt t job) [] t ∙ ap (λ (b : Bool). cond b (Some job) (job_of [] t)) (eq-eqb t t refl)
+pub job-push : (outs : List Attempt) (t job : ℕ) → is_out outs t ≡ false
+    → job_of (outs ++ attempt t job ∷ []) t ≡ Some job
+job-push [] t job h = job-cons (attempt t job) [] t
+    ∙ ap (λ (b : Bool). cond b (Some job) (job_of [] t)) (eq-eqb t t refl)
 job-push (a ∷ outs) t job h =
     let parts = or_false (a.ticket == t) (is_out outs t) (sym (out-cons a outs t) ∙ h) in
-    job-cons a (outs ++ attempt t job ∷ []) t ∙ ap (λ (b : Bool). cond b (Some a.job) (job_of (outs ++ attempt t job ∷ []) t)) parts.0 ∙ job-push outs t job parts.1
+    job-cons a (outs ++ attempt t job ∷ []) t ∙ ap (λ (b : Bool). cond b (Some a.job)
+    (job_of (outs ++ attempt t job ∷ []) t)) parts.0 ∙ job-push outs t job parts.1
 
 -- the tickets ascend, one more and one fewer
 out-with-other : (outs : List Attempt) (t s : ℕ) → is_out (without t outs) s ≡ true → is_out outs s ≡ true
@@ -257,7 +305,9 @@ ascending-without (a ∷ outs) t h = elim (cases_Bool (a.ticket == t)) [
   | inr apart ↦ rw (without-cons, apart) (λ s out. h.0 s (out-with-other outs t s out), ascending-without outs t h.1)
 ]
 
-after-all : (n : ℕ) (a : Attempt) (outs : List Attempt) (job : ℕ) → a.ticket < n → ((t : ℕ) → is_out outs t ≡ true → a.ticket < t) → (t : ℕ) → is_out (outs ++ attempt n job ∷ []) t ≡ true → a.ticket < t
+after-all : (n : ℕ) (a : Attempt) (outs : List Attempt) (job : ℕ) → a.ticket < n
+    → ((t : ℕ) → is_out outs t ≡ true → a.ticket < t) → (t : ℕ) → is_out (outs ++ attempt n job ∷ []) t ≡ true
+    → a.ticket < t
 after-all n a outs job below above t out = elim (cases_Bool (is_out outs t)) [
   | inl held ↦ above t held
   | inr new ↦
@@ -265,9 +315,14 @@ after-all n a outs job below above t out = elim (cases_Bool (is_out outs t)) [
       omega (arith, eqb-true n t last, below)
 ]
 
-pub ascending-push : (n m : ℕ) (outs : List Attempt) (job : ℕ) → AreAttempts n m outs → AreAscending outs → AreAscending (outs ++ attempt n job ∷ [])
+pub ascending-push : (n m : ℕ) (outs : List Attempt) (job : ℕ) → AreAttempts n m outs → AreAscending outs
+    → AreAscending (outs ++ attempt n job ∷ [])
 ascending-push n m [] job known h = (λ t out. absurd (true≢false (sym out ∙ out-nil t)), tt)
-ascending-push n m (a ∷ outs) job known h = (after-all n a outs job known.0 h.0, ascending-push n m outs job known.3 h.1)
+ascending-push n m (a ∷ outs) job known h = (
+  after-all n a outs job known.0 h.0,
+  ascending-push n m outs job known.3
+      h.1,
+)
 
 -- the first of them is the least
 pub least-is : (outs : List Attempt) → AreAscending outs → IsLeastOut outs (least_out outs)
@@ -277,7 +332,8 @@ least-is (a ∷ outs) h = (
   λ t out. elim (cases_Bool (a.ticket == t)) [
     | inl here ↦ omega (arith, eqb-true a.ticket t here)
     | inr apart ↦
-        let later : is_out outs t ≡ true = ap (λ (b : Bool). b || is_out outs t) (sym apart) ∙ sym (out-cons a outs t) ∙ out in
+        let later : is_out outs t ≡ true = ap (λ (b : Bool). b || is_out outs t) (sym apart) ∙ sym (out-cons a outs t)
+        ∙ out in
         omega (arith, h.0 t later)
   ],
 )

@@ -22,11 +22,17 @@ use Rattle.replay_supervisor.proofs.Follows.{told-more}
 pub is-log : (p : Plan) (b : Book) (log : List Entry) (m : Moment) → Books p b log m → IsLog p log
 is-log p b log m h = record {
   steps = h.steps;
-  drawn = subst (λ (n : ℕ). drawn_in log ≤ n * (p.restarts + 2)) h.matches.count (subst (λ (r : ℕ). drawn_in log ≤ length b.accounts * (r + 2)) h.restarts (omega (arith, h.matches.drawn, h.is_book.bound)));
-  events = subst (λ (n : ℕ). events_in log ≤ n * (p.restarts + 2) + 4096) h.matches.count (subst (λ (r : ℕ). events_in log ≤ length b.accounts * (r + 2) + 4096) h.restarts (omega (arith, h.events, h.is_book.bound, h.is_book.stale)));
+  drawn = subst (λ (n : ℕ). drawn_in log ≤ n * (p.restarts + 2)) h.matches.count
+      (subst (λ (r : ℕ). drawn_in log ≤ length b.accounts * (r + 2)) h.restarts
+      (omega (arith, h.matches.drawn, h.is_book.bound)));
+  events = subst (λ (n : ℕ). events_in log ≤ n * (p.restarts + 2) + 4096) h.matches.count
+      (subst (λ (r : ℕ). events_in log ≤ length b.accounts * (r + 2) + 4096) h.restarts
+      (omega (arith, h.events, h.is_book.bound, h.is_book.stale)));
 }
 
-unfoldable pub halts-of : (p : Plan) (start now : CrewState) (jobs : JobsState) (standing : Standing) (b : Book) (log : List Entry) (m : Moment) → Tells p start now b log → Holds p jobs standing log → Books p b log m → Halts p start now jobs standing b
+unfoldable pub halts-of : (p : Plan) (start now : CrewState) (jobs : JobsState) (standing : Standing) (b : Book)
+    (log : List Entry) (m : Moment) → Tells p start now b log → Holds p jobs standing log → Books p b log m
+    → Halts p start now jobs standing b
 halts-of p start now jobs standing b log m tells holds books = record {
   log = log;
   says = tells.says;
@@ -41,10 +47,13 @@ halts-of p start now jobs standing b log m tells holds books = record {
   held = inl refl;
 }
 
-pub halts-same : (p : Plan) (start old now : CrewState) (jobs : JobsState) (standing : Standing) (b : Book) (m : Moment) → now ≡ old → Follows p start old jobs standing b m → Halts p start now jobs standing b
-halts-same p start old now jobs standing b m same f = subst (λ (s : CrewState). Halts p start s jobs standing b) (sym same) (halts-of p start old jobs standing b f.log m f.tells f.holds f.books)
+pub halts-same : (p : Plan) (start old now : CrewState) (jobs : JobsState) (standing : Standing) (b : Book) (m : Moment)
+    → now ≡ old → Follows p start old jobs standing b m → Halts p start now jobs standing b
+halts-same p start old now jobs standing b m same f = subst (λ (s : CrewState). Halts p start s jobs standing b)
+    (sym same) (halts-of p start old jobs standing b f.log m f.tells f.holds f.books)
 
-pub halts-rests : (p : Plan) (start old now : CrewState) (jobs : JobsState) (standing : Standing) (b : Book) (m : Moment) → Rests old now → Follows p start old jobs standing b m → Halts p start now jobs standing b
+pub halts-rests : (p : Plan) (start old now : CrewState) (jobs : JobsState) (standing : Standing) (b : Book)
+    (m : Moment) → Rests old now → Follows p start old jobs standing b m → Halts p start now jobs standing b
 halts-rests p start old now jobs standing b m rests f = record {
   log = f.log;
   says = rests.log ∙ f.tells.says;
@@ -59,22 +68,27 @@ halts-rests p start old now jobs standing b m rests f = record {
   held = inl refl;
 }
 
-pub halts-feeds : (p : Plan) (start now : CrewState) (jobs : JobsState) (standing : Standing) (b : Book) (t : ℕ) (pieces : List (List ℕ)) → Feeds p start now jobs standing b t pieces → Halts p start now jobs standing b
-halts-feeds p start now jobs standing b t pieces f = halts-of p start now jobs standing b f.log (Moment.Feeding t) f.tells f.holds f.books
+pub halts-feeds : (p : Plan) (start now : CrewState) (jobs : JobsState) (standing : Standing) (b : Book) (t : ℕ)
+    (pieces : List (List ℕ)) → Feeds p start now jobs standing b t pieces → Halts p start now jobs standing b
+halts-feeds p start now jobs standing b t pieces f = halts-of p start now jobs standing b f.log (Moment.Feeding t)
+    f.tells f.holds f.books
 
 -- the reply for which the jobs wanted memory is the newest entry
-is-log-reply : (p : Plan) (b : Book) (log : List Entry) (t job : ℕ) (bytes : List ℕ) → Books p b log Idle → IsWindowed p log → job_of b.outs t ≡ Some job → IsLog p (Reply t bytes ∷ log)
+is-log-reply : (p : Plan) (b : Book) (log : List Entry) (t job : ℕ) (bytes : List ℕ) → Books p b log Idle
+    → IsWindowed p log → job_of b.outs t ≡ Some job → IsLog p (Reply t bytes ∷ log)
 unfolding drawn_in events_in
 is-log-reply p b log t job bytes h full is =
     let before = is-log p b log Idle h in
     record {
       steps = (full, h.steps);
       drawn = omega (arith, before.drawn);
-      events = subst (λ (n : ℕ). 1 + events_in log ≤ n * (p.restarts + 2) + 4096) h.matches.count (subst (λ (r : ℕ). 1 + events_in log ≤ length b.accounts * (r + 2) + 4096) h.restarts
+      events = subst (λ (n : ℕ). 1 + events_in log ≤ n * (p.restarts + 2) + 4096) h.matches.count
+          (subst (λ (r : ℕ). 1 + events_in log ≤ length b.accounts * (r + 2) + 4096) h.restarts
           (omega (arith, h.events, h.is_book.bound, h.is_book.stale, length-without b.outs t job is)));
     }
 
-outs-reply : (p : Plan) (log : List Entry) (t : ℕ) (bytes : List ℕ) (outs : List Attempt) → outs ≡ (read p.work log).outs → without t outs ≡ (read p.work (Reply t bytes ∷ log)).outs
+outs-reply : (p : Plan) (log : List Entry) (t : ℕ) (bytes : List ℕ) (outs : List Attempt)
+    → outs ≡ (read p.work log).outs → without t outs ≡ (read p.work (Reply t bytes ∷ log)).outs
 unfolding read
 outs-reply p log t bytes outs same = ap (λ xs. without t xs) same
 
@@ -82,11 +96,21 @@ drawn-reply : (t : ℕ) (bytes : List ℕ) (log : List Entry) → drawn_in (Repl
 unfolding drawn_in
 drawn-reply t bytes log = omega arith
 
-pub halts-take : (p : Plan) (start now : CrewState) (old new : JobsState) (stood standing : Standing) (b : Book) (t job : ℕ) (bytes : List ℕ) → Replied p start now old stood b t bytes → job_of b.outs t ≡ Some job → Stays old new stood standing → Halts p start now new standing (after_stopped b t)
+pub halts-take : (p : Plan) (start now : CrewState) (old new : JobsState) (stood standing : Standing) (b : Book)
+    (t job : ℕ) (bytes : List ℕ) → Replied p start now old stood b t bytes → job_of b.outs t ≡ Some job
+    → Stays old new stood standing → Halts p start now new standing (after_stopped b t)
 halts-take p start now old new stood standing b t job bytes r is stays = record {
   log = Reply t bytes ∷ r.log;
   says = r.left.log ∙ ap (λ l. told l (Reply t bytes ∷ [])) r.tells.says ∙ told-more start.log (Reply t bytes) r.log;
-  issued = omega (arith, r.left.issued, r.tells.issued, r.books.first, r.books.matches.drawn, drawn-reply t bytes r.log);
+  issued = omega (
+    arith,
+    r.left.issued,
+    r.tells.issued,
+    r.books.first,
+    r.books.matches.drawn,
+    drawn-reply t bytes
+        r.log,
+  );
   later = omega (arith, r.tells.later, r.left.faults);
   outs = outs-reply p r.log t bytes b.outs r.books.matches.outs;
   is_log = is-log-reply p b r.log t job bytes r.books r.full is;
@@ -103,9 +127,12 @@ on-err (Ok x) P Q step h = h
 on-err (Err e) P Q step h = step h
 
 -- a ticket was started and then fed, or went bad
-pub turned-then : (b x y : Book) (t job : ℕ) → MayStart b job → x ≡ after_started b job → IsBook x → job_of x.outs t ≡ Some job → (y ≡ x) ⊎ (y ≡ after_bad x t job Feed) → Turned b y
+pub turned-then : (b x y : Book) (t job : ℕ) → MayStart b job → x ≡ after_started b job → IsBook x
+    → job_of x.outs t ≡ Some job → (y ≡ x) ⊎ (y ≡ after_bad x t job Feed) → Turned b y
 turned-then b x y t job f same kept is moved = elim moved [
-  | inl fed ↦ subst (λ (z : Book). Turned b z) (sym (fed ∙ same)) (turned-started b job f (subst (λ (z : Book). IsBook z) same kept))
+  | inl fed ↦ subst (λ (z : Book). Turned b z) (sym (fed ∙ same))
+      (turned-started b job f (subst (λ (z : Book). IsBook z) same kept))
   | inr failed ↦ subst (λ (z : Book). Turned b z) (sym (failed ∙ ap (λ (z : Book). after_bad z t job Feed) same))
-      (turned-feed_failed b t job f (subst (λ (z : Book). IsBook z) same kept) (ap (λ (z : Book). job_of z.outs t) (sym same) ∙ is))
+      (turned-feed_failed b t job f (subst (λ (z : Book). IsBook z) same kept)
+      (ap (λ (z : Book). job_of z.outs t) (sym same) ∙ is))
 ]

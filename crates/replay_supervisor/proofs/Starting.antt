@@ -37,18 +37,37 @@ no-reply zero i = refl
 no-reply (suc n) zero = refl
 no-reply (suc n) (suc i) = no-reply n i
 
-below-count : (p : Plan) (b : Book) (log : List Entry) (job : ℕ) → Matches p.work b log → job < p.work.count → job < length b.accounts
+below-count : (p : Plan) (b : Book) (log : List Entry) (job : ℕ) → Matches p.work b log → job < p.work.count
+    → job < length b.accounts
 below-count p b log job h below = omega (arith, below, h.count)
 
-unspent-log : (p : Plan) (b : Book) (log : List Entry) → Books p b log Idle → AreFew b.restarts b.accounts → IsUnspent p log
-unspent-log p b log h few job below = omega (arith, few job (below-count p b log job h.matches below), ap total (h.matches.bads job), h.restarts)
+unspent-log : (p : Plan) (b : Book) (log : List Entry) → Books p b log Idle → AreFew b.restarts b.accounts
+    → IsUnspent p log
+unspent-log p b log h few job below = omega (
+  arith,
+  few job (below-count p b log job h.matches below),
+  ap total
+      (h.matches.bads job),
+  h.restarts,
+)
 
 -- before the first turn
-pub start-follows : (crew : CrewState) (jobs : JobsState) (standing : Standing) (window restarts : ℕ) → IsBook (new_book crew.issued jobs.work.count window restarts) → ((t : ℕ) → crew.is_out t ≡ false) → ((job : ℕ) → jobs.has_taken job ≡ false) → standing (replicate jobs.work.count None) → Follows (plan_of jobs (new_book crew.issued jobs.work.count window restarts)) crew crew jobs standing (new_book crew.issued jobs.work.count window restarts) Idle
+pub start-follows : (crew : CrewState) (jobs : JobsState) (standing : Standing) (window restarts : ℕ)
+    → IsBook (new_book crew.issued jobs.work.count window restarts) → ((t : ℕ) → crew.is_out t ≡ false)
+    → ((job : ℕ) → jobs.has_taken job ≡ false) → standing (replicate jobs.work.count None)
+    → Follows (plan_of jobs (new_book crew.issued jobs.work.count window restarts)) crew crew jobs standing
+    (new_book crew.issued jobs.work.count window restarts) Idle
 unfolding new_book read bad_in stale_in drawn_in events_in pieces_in moment
 start-follows crew jobs standing window restarts kept none fresh stands = record {
   log = [];
-  tells = record { says = told-nothing crew.log; issued = omega arith; outs = λ t. none t ∙ sym (out-nil t); later = omega arith; faults = λ job. omega arith };
+  tells = record {
+    says = told-nothing crew.log;
+    issued = omega arith;
+    outs = λ t. none t
+        ∙ sym (out-nil t);
+    later = omega arith;
+    faults = λ job. omega arith;
+  };
   holds = record { work = refl; marks = λ job. fresh job ∙ sym (no-reply jobs.work.count job); stands = stands };
   books = record {
     first = refl;
@@ -78,7 +97,11 @@ start-near n restarts = inl (record {
   fresh = omega arith;
 })
 
-pub start-turns : (crew : CrewState) (jobs : JobsState) (standing : Standing) (window restarts : ℕ) → IsBook (new_book crew.issued jobs.work.count window restarts) → ((t : ℕ) → crew.is_out t ≡ false) → ((job : ℕ) → jobs.has_taken job ≡ false) → standing (replicate jobs.work.count None) → Turns (plan_of jobs (new_book crew.issued jobs.work.count window restarts)) crew crew jobs standing (new_book crew.issued jobs.work.count window restarts)
+pub start-turns : (crew : CrewState) (jobs : JobsState) (standing : Standing) (window restarts : ℕ)
+    → IsBook (new_book crew.issued jobs.work.count window restarts) → ((t : ℕ) → crew.is_out t ≡ false)
+    → ((job : ℕ) → jobs.has_taken job ≡ false) → standing (replicate jobs.work.count None)
+    → Turns (plan_of jobs (new_book crew.issued jobs.work.count window restarts)) crew crew jobs standing
+    (new_book crew.issued jobs.work.count window restarts)
 unfolding new_book
 start-turns crew jobs standing window restarts kept none fresh stands = record {
   follows = start-follows crew jobs standing window restarts kept none fresh stands;
@@ -95,7 +118,8 @@ drawn-stops [] log = refl
 drawn-stops (a ∷ outs) log = drawn-stops outs (Stopped a.ticket ∷ log) ∙ drawn-stopped a.ticket log
 
 -- every job is done
-pub finish : (p : Plan) (start now : CrewState) (jobs : JobsState) (standing : Standing) (b : Book) (u : Unit {0}) → Ended p start now jobs standing b (Ok u) → p.first ≡ start.issued → Supervised p start now jobs standing (Ok u)
+pub finish : (p : Plan) (start now : CrewState) (jobs : JobsState) (standing : Standing) (b : Book) (u : Unit {0})
+    → Ended p start now jobs standing b (Ok u) → p.first ≡ start.issued → Supervised p start now jobs standing (Ok u)
 finish p start now jobs standing b u e first =
     let f = e.0 in
     let known = λ (j : ℕ) (below : j < p.work.count). below-count p b f.log j f.books.matches below in
@@ -122,7 +146,9 @@ finish p start now jobs standing b u e first =
     }
 
 -- a call that is broken off, and then each ticket that is out is stopped
-halted : (stop : Stop) (p : Plan) (start mid now : CrewState) (jobs : JobsState) (standing : Standing) (b : Book) (h : Halts p start mid jobs standing b) → p.first ≡ start.issued → IsStopped mid now b → Stops p start now h.log h.taken stop → Supervised p start now jobs standing (Err stop)
+halted : (stop : Stop) (p : Plan) (start mid now : CrewState) (jobs : JobsState) (standing : Standing) (b : Book)
+    (h : Halts p start mid jobs standing b) → p.first ≡ start.issued → IsStopped mid now b
+    → Stops p start now h.log h.taken stop → Supervised p start now jobs standing (Err stop)
 halted stop p start mid now jobs standing b h first end why = record {
   part = with_stops (read p.work h.log).outs h.log;
   log = end.tells start.log h.log h.says ∙ ap (λ xs. told start.log (with_stops xs h.log)) h.outs;
@@ -136,28 +162,38 @@ halted stop p start mid now jobs standing b h first end why = record {
   none_out = end.none_out;
 }
 
-pub halt : (stop : Stop) (p : Plan) (start mid now : CrewState) (jobs : JobsState) (standing : Standing) (b : Book) → Ended p start mid jobs standing b (Err stop) → p.first ≡ start.issued → IsStopped mid now b → Supervised p start now jobs standing (Err stop)
+pub halt : (stop : Stop) (p : Plan) (start mid now : CrewState) (jobs : JobsState) (standing : Standing) (b : Book)
+    → Ended p start mid jobs standing b (Err stop) → p.first ≡ start.issued → IsStopped mid now b
+    → Supervised p start now jobs standing (Err stop)
 unfolding halts-of
 halt (stops.RestartsSpent job bad) p start mid now jobs standing b e first end =
     let f = e.0 in
     let counts = e.2 ∙ f.books.matches.bads job in
-    halted (stops.RestartsSpent job bad) p start mid now jobs standing b (halts-of p start mid jobs standing b f.log Idle f.tells f.holds f.books) first end (
+    halted (stops.RestartsSpent job bad) p start mid now jobs standing b
+    (halts-of p start mid jobs standing b f.log Idle f.tells f.holds f.books) first end (
       refl,
       record {
         moment = f.books.moment;
         known = omega (arith, e.1.known, f.books.matches.count);
         counts = counts;
         spent = omega (arith, ap total e.2, e.1.one, f.books.restarts);
-        others = λ j below apart. omega (arith, e.1.others j (below-count p b f.log j f.books.matches below) apart, ap total (f.books.matches.bads j), f.books.restarts);
+        others = λ j below apart. omega (
+          arith,
+          e.1.others j (below-count p b f.log j f.books.matches below) apart,
+          ap total (f.books.matches.bads j),
+          f.books.restarts,
+        );
         fresh = omega (arith, e.1.fresh, f.books.matches.stale);
         some_open = omega (arith, e.1.some_open, open-same p b f.log f.books.matches);
         faults = subst (λ (x : Bad). RoseBy (crew_faults x) start.faults now.faults) (sym counts)
-            (rose-same (crew_faults (bad_in p.work f.log job)) start.faults mid.faults now.faults (f.tells.faults job) end.faults);
+            (rose-same (crew_faults (bad_in p.work f.log job)) start.faults mid.faults now.faults (f.tells.faults job)
+            end.faults);
       },
     )
 halt stops.StaleLimit p start mid now jobs standing b e first end =
     let f = e.0 in
-    halted stops.StaleLimit p start mid now jobs standing b (halts-of p start mid jobs standing b f.log Idle f.tells f.holds f.books) first end (
+    halted stops.StaleLimit p start mid now jobs standing b
+    (halts-of p start mid jobs standing b f.log Idle f.tells f.holds f.books) first end (
       refl,
       record {
         moment = f.books.moment;
@@ -166,10 +202,13 @@ halt stops.StaleLimit p start mid now jobs standing b e first end =
         some_open = omega (arith, e.1.some_open, open-same p b f.log f.books.matches);
       },
     )
-halt stops.Memory p start mid now jobs standing b e first end = halted stops.Memory p start mid now jobs standing b e first end e.held
+halt stops.Memory p start mid now jobs standing b e first end = halted stops.Memory p start mid now jobs standing b e
+    first end e.held
 
 -- a call for which there was no memory at all
-pub nothing : (p : Plan) (crew : CrewState) (jobs : JobsState) (standing : Standing) → p.work ≡ jobs.work → ((t : ℕ) → crew.is_out t ≡ false) → ((job : ℕ) → jobs.has_taken job ≡ false) → standing (replicate p.work.count None) → Supervised p crew crew jobs standing (Err stops.Memory)
+pub nothing : (p : Plan) (crew : CrewState) (jobs : JobsState) (standing : Standing) → p.work ≡ jobs.work
+    → ((t : ℕ) → crew.is_out t ≡ false) → ((job : ℕ) → jobs.has_taken job ≡ false)
+    → standing (replicate p.work.count None) → Supervised p crew crew jobs standing (Err stops.Memory)
 unfolding read drawn_in events_in
 nothing p crew jobs standing work none fresh stands = record {
   part = [];
@@ -180,6 +219,11 @@ nothing p crew jobs standing work none fresh stands = record {
   stands = stands;
   work = sym work;
   marks = λ job. fresh job ∙ sym (no-reply p.work.count job);
-  answers = record { log = []; whole = refl; is_log = record { steps = tt; drawn = omega arith; events = omega arith }; why = inl refl };
+  answers = record {
+    log = [];
+    whole = refl;
+    is_log = record { steps = tt; drawn = omega arith; events = omega arith };
+    why = inl refl;
+  };
   none_out = none;
 }

@@ -32,21 +32,27 @@ empty-is-out [] few = refl
 empty-is-out (a ∷ outs) few = absurd (omega arith)
 
 -- the first ticket is stopped, and the rest after it
-first-stopped : (outs : List Attempt) (t : ℕ) (log : List Entry) → least_out outs ≡ Some t → with_stops (without t outs) (Stopped t ∷ log) ≡ with_stops outs log
+first-stopped : (outs : List Attempt) (t : ℕ) (log : List Entry) → least_out outs ≡ Some t
+    → with_stops (without t outs) (Stopped t ∷ log) ≡ with_stops outs log
 first-stopped [] t log is = absurd (none-some t is)
 first-stopped (a ∷ outs) t log is =
     let same = same_Some a.ticket t is in
-    ap (λ xs. with_stops xs (Stopped t ∷ log)) (without-cons t a outs ∙ ap (λ (x : Bool). cond x outs (a ∷ without t outs)) (eq-eqb a.ticket t same))
+    ap (λ xs. with_stops xs (Stopped t ∷ log)) (without-cons t a outs
+    ∙ ap (λ (x : Bool). cond x outs (a ∷ without t outs)) (eq-eqb a.ticket t same))
     ∙ ap (λ (k : ℕ). with_stops outs (Stopped k ∷ log)) (sym same)
 
-pub stops-more : (turns : ℕ) (old now later : CrewState) (was b after : Book) (t : ℕ) → StopsRest turns old now was b → least_out b.outs ≡ Some t → Leaves t (Stopped t) now later → after ≡ after_stopped b t → IsBook after → StopsRest (turns + 1) old later was after
+pub stops-more : (turns : ℕ) (old now later : CrewState) (was b after : Book) (t : ℕ) → StopsRest turns old now was b
+    → least_out b.outs ≡ Some t → Leaves t (Stopped t) now later → after ≡ after_stopped b t → IsBook after
+    → StopsRest (turns + 1) old later was after
 stops-more turns old now later was b after t h is left same kept =
     let known = out-known b.outs t (first-has-job b.outs t is) in
     let fewer = length-without b.outs t known.0 known.1 in
     let outs = ap (λ (x : Book). x.outs) same in
     record {
       few = omega (arith, h.few, fewer, ap (λ (xs : List Attempt). length xs) outs);
-      outs = λ s. left.out s ∙ ap (λ (x : Bool). not (s == t) && x) (h.outs s) ∙ sym (out-without (b.first + b.drawn) (length b.accounts) b.outs t s h.is_book.outs) ∙ ap (λ xs. is_out xs s) (sym outs);
+      outs = λ s. left.out s ∙ ap (λ (x : Bool). not (s == t) && x) (h.outs s)
+          ∙ sym (out-without (b.first + b.drawn) (length b.accounts) b.outs t s h.is_book.outs)
+          ∙ ap (λ xs. is_out xs s) (sym outs);
       is_book = kept;
       issued = left.issued ∙ h.issued;
       faults = omega (arith, h.faults, left.faults);
@@ -59,10 +65,13 @@ stops-more turns old now later was b after t h is left same kept =
     }
 
 -- no ticket is left
-pub stops-none : (turns : ℕ) (old now : CrewState) (was b : Book) → StopsRest turns old now was b → b.outs ≡ [] → (t : ℕ) → now.is_out t ≡ false
+pub stops-none : (turns : ℕ) (old now : CrewState) (was b : Book) → StopsRest turns old now was b → b.outs ≡ []
+    → (t : ℕ) → now.is_out t ≡ false
 stops-none turns old now was b h none t = h.outs t ∙ ap (λ xs. is_out xs t) none ∙ out-nil t
 
-pub stops-log : (turns : ℕ) (old now : CrewState) (was b : Book) → StopsRest turns old now was b → b.outs ≡ [] → (start : Option (List Entry)) (log : List Entry) → old.log ≡ told start log → now.log ≡ told start (with_stops was.outs log)
+pub stops-log : (turns : ℕ) (old now : CrewState) (was b : Book) → StopsRest turns old now was b → b.outs ≡ []
+    → (start : Option (List Entry)) (log : List Entry) → old.log ≡ told start log
+    → now.log ≡ told start (with_stops was.outs log)
 stops-log turns old now was b h none start log is =
     let end = h.tells start log is in
     end.1 ∙ ap (λ l. told start l) (ap (λ xs. with_stops xs end.0) (sym none) ∙ end.2)

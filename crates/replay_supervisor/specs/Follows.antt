@@ -43,7 +43,8 @@ pub record Books (p : Plan) (b : Book) (log : List Entry) (m : Moment) : Type 0 
   pub events : events_in log + length b.outs ≤ b.drawn + b.stale
   pub is_book : IsBook b
 
-pub record Follows (p : Plan) (start now : CrewState) (jobs : JobsState) (standing : Standing) (b : Book) (m : Moment) : Type 0 where
+pub record Follows (p : Plan) (start now : CrewState) (jobs : JobsState) (standing : Standing) (b : Book)
+    (m : Moment) : Type 0 where
   pub log : List Entry
   pub tells : Tells p start now b log
   pub holds : Holds p jobs standing log
@@ -56,7 +57,8 @@ pub record Replies (ticket : ℕ) (crew : CrewState) (jobs : JobsState) (b : Boo
   pub marks : (job : ℕ) → jobs.has_taken job ≡ is_done b job
 
 -- the same of a reply that came, which the log has not yet
-pub record Replied (p : Plan) (start now : CrewState) (jobs : JobsState) (standing : Standing) (b : Book) (ticket : ℕ) (bytes : List ℕ) : Type 0 where
+pub record Replied (p : Plan) (start now : CrewState) (jobs : JobsState) (standing : Standing) (b : Book) (ticket : ℕ)
+    (bytes : List ℕ) : Type 0 where
   pub before : CrewState
   pub log : List Entry
   pub tells : Tells p start before b log
@@ -66,7 +68,8 @@ pub record Replied (p : Plan) (start now : CrewState) (jobs : JobsState) (standi
   pub full : IsWindowed p log
 
 -- a ticket is being fed, and has these pieces
-pub record Feeds (p : Plan) (start now : CrewState) (jobs : JobsState) (standing : Standing) (b : Book) (ticket : ℕ) (pieces : List (List ℕ)) : Type 0 where
+pub record Feeds (p : Plan) (start now : CrewState) (jobs : JobsState) (standing : Standing) (b : Book) (ticket : ℕ)
+    (pieces : List (List ℕ)) : Type 0 where
   pub log : List Entry
   pub tells : Tells p start now b log
   pub holds : Holds p jobs standing log
@@ -74,7 +77,8 @@ pub record Feeds (p : Plan) (start now : CrewState) (jobs : JobsState) (standing
   pub fed : pieces_in log ticket ≡ pieces
 
 -- a feed or the seal of the ticket failed
-pub record FeedFails (p : Plan) (start now : CrewState) (jobs : JobsState) (standing : Standing) (b : Book) (ticket : ℕ) : Type 0 where
+pub record FeedFails (p : Plan) (start now : CrewState) (jobs : JobsState) (standing : Standing) (b : Book)
+    (ticket : ℕ) : Type 0 where
   pub before : CrewState
   pub log : List Entry
   pub tells : Tells p start before b log
@@ -83,14 +87,16 @@ pub record FeedFails (p : Plan) (start now : CrewState) (jobs : JobsState) (stan
   pub books : Books p b log (Moment.Feeding ticket)
 
 -- what the feeding of all pieces came to
-abbrev pub FedOutcome : Plan → CrewState → CrewState → JobsState → Standing → Book → ℕ → Result (Unit {0}) CrewStop → Type 0
+abbrev pub FedOutcome : Plan → CrewState → CrewState → JobsState → Standing → Book → ℕ → Result (Unit {0}) CrewStop
+    → Type 0
 FedOutcome p start now jobs standing b ticket (Ok _) = Follows p start now jobs standing b Moment.Idle
 FedOutcome p start now jobs standing b ticket (Err stops.Fault) = FeedFails p start now jobs standing b ticket
 FedOutcome p start now jobs standing b ticket (Err stops.Memory) =
     (pieces : List (List ℕ)) × Feeds p start now jobs standing b ticket pieces
 
 -- so many pieces of a job are fed to its ticket, which is out and open
-pub record Feeding (ticket job count : ℕ) (old now : CrewState) (were jobs : JobsState) (stood standing : Standing) : Type 0 where
+pub record Feeding (ticket job count : ℕ) (old now : CrewState) (were jobs : JobsState)
+    (stood standing : Standing) : Type 0 where
   pub work : jobs.work ≡ were.work
   pub outs : (t : ℕ) → now.is_out t ≡ old.is_out t
   pub is_open : now.is_sealed ticket ≡ false

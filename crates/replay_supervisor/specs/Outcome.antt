@@ -66,7 +66,8 @@ Answers p old new part taken (Ok _) = Finished p part taken
 Answers p old new part taken (Err why) = Stopped p old new part taken why
 
 -- What a call did: the part of the log that it appended, and the replies that were taken, one place a job.
-pub record Supervised (p : Plan) (old new : CrewState) (jobs : JobsState) (standing : Standing) (result : Result (Unit {0}) Stop) : Type 0 where
+pub record Supervised (p : Plan) (old new : CrewState) (jobs : JobsState) (standing : Standing)
+    (result : Result (Unit {0}) Stop) : Type 0 where
   pub part : List Entry
   pub log : new.log ≡ told old.log part
   pub issued : new.issued ≡ old.issued + drawn_in part

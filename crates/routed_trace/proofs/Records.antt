@@ -14,7 +14,8 @@ use Rattle.topology.specs.Topology.{Topo}
 use Rattle.routed_trace.specs.Routed.{IsDivided, bytes_of, epoch_at, epoch_of, first_of, keyed_in, number_of_epochs, routed_at, routed_of, seconds_of}
 use Rattle.routed_trace.specs.declared.division.Division.{Division}
 
-pub keyed_push : (header : Header) (members : List Record) (member : Record) (b : Bool) → is_some (frame_key header.link member.captured) ≡ b
+pub keyed_push : (header : Header) (members : List Record) (member : Record) (b : Bool)
+    → is_some (frame_key header.link member.captured) ≡ b
     → keyed_in header (members ++ member ∷ []) ≡ keyed_in header members + cond {A = ℕ} b 1 0
 keyed_push header members member b is =
     let one = λ (m : Record). cond {A = ℕ} (is_some (frame_key header.link m.captured)) 1 0 in
@@ -34,7 +35,8 @@ bytes_of-push header members member =
 -- the bytes that are counted, by whether bytes are counted
 pub bytes_more : (b : Bool) (header : Header) (members : List Record) (member : Record) (n : ℕ)
     → n ≡ (if b then bytes_of header members else 0)
-    → (if b then n + (packet_of header member).original else 0) ≡ (if b then bytes_of header (members ++ member ∷ []) else 0)
+    → (if b then n + (packet_of header member).original else 0) ≡ (if b then bytes_of header
+    (members ++ member ∷ []) else 0)
 bytes_more true header members member n is = omega (arith, is, bytes_of-push header members member)
 bytes_more false header members member n is = refl
 
@@ -47,7 +49,8 @@ bytes_less true header members more =
 bytes_less false header members more = omega arith
 
 -- the epoch of a record behind others
-pub epoch_behind : (length : Option ℕ) (header : Header) (members : List Record) (member : Record) (first : Option ℕ) (seconds : ℕ)
+pub epoch_behind : (length : Option ℕ) (header : Header) (members : List Record) (member : Record) (first : Option ℕ)
+    (seconds : ℕ)
     → first ≡ first_of header members → seconds ≡ seconds_of header member
     → epoch_at length (unwrap_or first seconds) seconds ≡ epoch_of length header (members ++ member ∷ []) member
 epoch_behind length header members member first seconds f s =
@@ -75,9 +78,11 @@ number_of_epochs-push seconds header (x ∷ members) member =
     raised n e = omega arith
 
 -- the routed packets of one more record
-pub routed_of-push : (division : Division) (topology : Option Topo) (header : Header) (members : List Record) (member : Record)
+pub routed_of-push : (division : Division) (topology : Option Topo) (header : Header) (members : List Record)
+    (member : Record)
     → routed_of division topology header (members ++ member ∷ [])
-    ≡ routed_of division topology header members ++ option_to_list (routed_at division topology header (members ++ member ∷ []) member)
+    ≡ routed_of division topology header members ++ option_to_list (routed_at division topology header
+    (members ++ member ∷ []) member)
 unfolding routed_of
 routed_of-push division topology header members member = pushed members
   where
@@ -89,7 +94,8 @@ routed_of-push division topology header members member = pushed members
     route all m = routed_at division topology header all m
 
     pushed : (ms : List Record)
-        → filter_map (route (ms ++ member ∷ [])) (ms ++ member ∷ []) ≡ filter_map (route ms) ms ++ option_to_list (route (ms ++ member ∷ []) member)
+        → filter_map (route (ms ++ member ∷ [])) (ms ++ member ∷ []) ≡ filter_map (route ms) ms
+        ++ option_to_list (route (ms ++ member ∷ []) member)
     pushed [] = listed (route (member ∷ []) member)
     pushed (x ∷ ms) =
         let all = x ∷ ms in
@@ -106,7 +112,8 @@ length-routed_of-le division topology header members = few (routed_at division t
     few f [] = omega arith
     few f (m ∷ ms) = by_found (f m) (few f ms)
       where
-        by_found : (found : Option Routed) → length (filter_map f ms) ≤ length ms → length (cons_option found (filter_map f ms)) ≤ length (m ∷ ms)
+        by_found : (found : Option Routed) → length (filter_map f ms) ≤ length ms
+            → length (cons_option found (filter_map f ms)) ≤ length (m ∷ ms)
         by_found None within = omega arith
         by_found (Some packet) within = omega arith
 

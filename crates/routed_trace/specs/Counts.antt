@@ -14,7 +14,8 @@ use Rattle.routed_trace.specs.declared.fault.TraceFault.{TraceFault}
 use Rattle.routed_trace.specs.declared.fault.TraceFault.TheVariants.{Pcap, Epochs, Weight}
 
 -- the numbers are those of these records, none of which is late or heavy
-pub record AreCounts (division : Division) (topology : Option Topo) (counts : TraceCounts) (header : Header) (members : List Record) : Type 0 where
+pub record AreCounts (division : Division) (topology : Option Topo) (counts : TraceCounts) (header : Header)
+    (members : List Record) : Type 0 where
   pub packets : counts.packets ≡ length members
   pub keyed : counts.keyed ≡ keyed_in header members
   pub routed : counts.routed ≡ length (routed_of division topology header members)
@@ -31,10 +32,12 @@ pub record HasCounted (division : Division) (topology : Option Topo) (counts : T
   pub counts_are : AreCounts division topology counts header members
 
 -- how counting one more record ended: with its routed packet, if it is one, behind the others, or where it is late or heavy
-abbrev pub Added : Division → Option Topo → TraceCounts → Header → List Record → Record → Result (Option Routed) TraceFault → Type 0
+abbrev pub Added : Division → Option Topo → TraceCounts → Header → List Record → Record
+    → Result (Option Routed) TraceFault → Type 0
 Added division topology new header members member (Ok found) =
     AreCounts division topology new header (members ++ member ∷ [])
-    × (routed_of division topology header (members ++ member ∷ []) ≡ routed_of division topology header members ++ option_to_list found)
+    × (routed_of division topology header (members ++ member ∷ []) ≡ routed_of division topology header members
+    ++ option_to_list found)
 Added division topology new header members member (Err (Pcap fault)) = ⊥
 Added division topology new header members member (Err (Epochs number index)) =
     (number ≡ length members) × (index ≡ epoch_of division.seconds header (members ++ member ∷ []) member) × (7 < index)
@@ -43,7 +46,8 @@ Added division topology new header members member (Err (Weight number)) =
     × (2 ^ 44 < limited_bytes division header (members ++ member ∷ []))
 
 -- the same of any records so far, and one that is this packet, with this key
-abbrev pub Adds : Division → Option Topo → TraceCounts → TraceCounts → Packet → Option (List ℕ) → Result (Option Routed) TraceFault → Type 0
+abbrev pub Adds : Division → Option Topo → TraceCounts → TraceCounts → Packet → Option (List ℕ)
+    → Result (Option Routed) TraceFault → Type 0
 Adds division topology old new packet key result =
     (header : Header) (members : List Record) (member : Record) → AreCounts division topology old header members
     → packet ≡ packet_of header member → key ≡ frame_key header.link member.captured

@@ -25,7 +25,8 @@ epoch_at (Some length) first seconds = (seconds - first) / length
 
 -- the epoch of a record of a trace, of so many seconds an epoch
 abbrev pub epoch_of : Option ℕ → Header → List Record → Record → ℕ
-epoch_of length header members member = epoch_at length (unwrap_or (first_of header members) 0) (seconds_of header member)
+epoch_of length header members member = epoch_at length (unwrap_or (first_of header members) 0)
+    (seconds_of header member)
 
 -- how many epochs a trace has: one more than the greatest epoch of a record, and one where there is none
 unfoldable pub number_of_epochs : Option ℕ → Header → List Record → ℕ

@@ -13,7 +13,8 @@ use Rattle.routed_trace.specs.declared.fault.TraceFault.TheVariants.{Pcap, Epoch
 abbrev pub BreaksWithin : Division → List ℕ → PcapFault → Type 0
 BreaksWithin division bytes fault =
     (header_of bytes ≡ Err fault)
-    ⊎ ((header : Header) × (members : List Record) × BreaksOff bytes header members fault × IsDivided division header members)
+    ⊎ ((header : Header) × (members : List Record) × BreaksOff bytes header members fault
+    × IsDivided division header members)
 
 -- the record of this number stands behind records none of which is late or heavy
 pub record HasNext (division : Division) (bytes : List ℕ) (number : ℕ) : Type 0 where

@@ -13,22 +13,32 @@ use Rattle.scripted_crew.specs.Keeps.{Keeps}
 use Rattle.scripted_crew.specs.Script.{Deed, deeds_left, failures_in, is_listed, is_started, outs_in}
 
 -- an entry
-pub keeps_with : (new : Listed) (after : FedState) (before : List Entry) (noted : LogState) (began : List ℕ) (deeds : List Deed) (did raised : ℕ) (entry : Entry) → noted.entries ≡ entry ∷ before → length before + 1 + length new.marks ≤ noted.room → length after.jobs ≡ new.issued → tickets new.marks ≡ outs_in (entry ∷ before) → ((t : ℕ) → is_out new.marks t ≡ true → t < new.issued) → ((t : ℕ) → fed_to after.jobs t ≡ job_bytes (entry ∷ before) t) → ((t : ℕ) → is_listed began t ≡ is_started (entry ∷ before) t) → ((t : ℕ) → is_started (entry ∷ before) t ≡ true → t < new.issued) → did ≤ length deeds → drop did deeds ≡ deeds_left deeds (entry ∷ before) → raised ≡ min (failures_in (entry ∷ before)) (2 ^ 64 - 1) → Keeps new after noted began deeds did raised
-keeps_with new after before noted began deeds did raised entry is room numbered order known bytes started issued within left counted = record {
-  sure = omega (arith, ap (λ (xs : List Entry). length xs) is, room);
-  numbered = numbered;
-  order = order ∙ ap outs_in (sym is);
-  known = known;
-  bytes = λ t. bytes t ∙ ap (λ (xs : List Entry). job_bytes xs t) (sym is);
-  started_is = λ t. started t ∙ ap (λ (xs : List Entry). is_started xs t) (sym is);
-  issued = λ t s. issued t (ap (λ (xs : List Entry). is_started xs t) (sym is) ∙ s);
-  within = within;
-  left = left ∙ ap (deeds_left deeds) (sym is);
-  counted = counted ∙ ap (λ (xs : List Entry). min (failures_in xs) (2 ^ 64 - 1)) (sym is);
-}
+pub keeps_with : (new : Listed) (after : FedState) (before : List Entry) (noted : LogState) (began : List ℕ)
+    (deeds : List Deed) (did raised : ℕ) (entry : Entry) → noted.entries ≡ entry ∷ before
+    → length before + 1 + length new.marks ≤ noted.room → length after.jobs ≡ new.issued
+    → tickets new.marks ≡ outs_in (entry ∷ before) → ((t : ℕ) → is_out new.marks t ≡ true → t < new.issued)
+    → ((t : ℕ) → fed_to after.jobs t ≡ job_bytes (entry ∷ before) t)
+    → ((t : ℕ) → is_listed began t ≡ is_started (entry ∷ before) t)
+    → ((t : ℕ) → is_started (entry ∷ before) t ≡ true → t < new.issued) → did ≤ length deeds
+    → drop did deeds ≡ deeds_left deeds (entry ∷ before) → raised ≡ min (failures_in (entry ∷ before)) (2 ^ 64 - 1)
+    → Keeps new after noted began deeds did raised
+keeps_with new after before noted began deeds did raised entry is room numbered order known bytes started issued within
+    left counted = record {
+      sure = omega (arith, ap (λ (xs : List Entry). length xs) is, room);
+      numbered = numbered;
+      order = order ∙ ap outs_in (sym is);
+      known = known;
+      bytes = λ t. bytes t ∙ ap (λ (xs : List Entry). job_bytes xs t) (sym is);
+      started_is = λ t. started t ∙ ap (λ (xs : List Entry). is_started xs t) (sym is);
+      issued = λ t s. issued t (ap (λ (xs : List Entry). is_started xs t) (sym is) ∙ s);
+      within = within;
+      left = left ∙ ap (deeds_left deeds) (sym is);
+      counted = counted ∙ ap (λ (xs : List Entry). min (failures_in xs) (2 ^ 64 - 1)) (sym is);
+    }
 
 -- a count that is one on
-pub raised_is : (n faults raised : ℕ) → faults ≡ min n (2 ^ 64 - 1) → raised ≡ next_count faults → raised ≡ min (n + 1) (2 ^ 64 - 1)
+pub raised_is : (n faults raised : ℕ) → faults ≡ min n (2 ^ 64 - 1) → raised ≡ next_count faults
+    → raised ≡ min (n + 1) (2 ^ 64 - 1)
 raised_is n faults raised is up = omega (arith, is, up)
 
 -- a ticket more in a list
@@ -65,21 +75,29 @@ room_and_unlisted out b h =
     (parts.1, leb-false 64 out parts.0)
 
 -- the bytes of a ticket, a piece more
-joined_more : (pieces : List (List ℕ)) (piece : List ℕ) → flat_map (λ (x : List ℕ). x) (pieces ++ piece ∷ []) ≡ flat_map (λ (x : List ℕ). x) pieces ++ piece
+joined_more : (pieces : List (List ℕ)) (piece : List ℕ)
+    → flat_map (λ (x : List ℕ). x) (pieces ++ piece ∷ []) ≡ flat_map (λ (x : List ℕ). x) pieces ++ piece
 joined_more [] piece = append-nil piece
-joined_more (first ∷ pieces) piece = ap (λ (xs : List ℕ). first ++ xs) (joined_more pieces piece) ∙ sym (append_assoc first (flat_map (λ (x : List ℕ). x) pieces) piece)
+joined_more (first ∷ pieces) piece = ap (λ (xs : List ℕ). first ++ xs) (joined_more pieces piece)
+    ∙ sym (append_assoc first (flat_map (λ (x : List ℕ). x) pieces) piece)
 
-pub fed_bytes : (log : List Entry) (ticket t : ℕ) (piece fed : List ℕ) → fed ≡ job_bytes log t → cond (t == ticket) (fed ++ piece) fed ≡ job_bytes (Entry.Fed ticket piece ∷ log) t
+pub fed_bytes : (log : List Entry) (ticket t : ℕ) (piece fed : List ℕ) → fed ≡ job_bytes log t
+    → cond (t == ticket) (fed ++ piece) fed ≡ job_bytes (Entry.Fed ticket piece ∷ log) t
 unfolding pieces_in
 fed_bytes log ticket t piece fed is = elim (cases_eq t ticket) [
-  | inl same ↦ rw (eq-eqb t ticket same) (ap (λ (xs : List ℕ). xs ++ piece) is ∙ sym (joined_more (pieces_in log t) piece)
-      ∙ ap (λ (b : Bool). flat_map (λ (x : List ℕ). x) (cond b (pieces_in log t ++ piece ∷ []) (pieces_in log t))) (sym (eq-eqb ticket t (sym same))))
+  | inl same ↦ rw (eq-eqb t ticket same) (ap (λ (xs : List ℕ). xs ++ piece) is
+      ∙ sym (joined_more (pieces_in log t) piece)
+      ∙ ap (λ (b : Bool). flat_map (λ (x : List ℕ). x) (cond b (pieces_in log t ++ piece ∷ []) (pieces_in log t)))
+      (sym (eq-eqb ticket t (sym same))))
   | inr apart ↦ rw (ne_eqb t ticket apart) (is
-      ∙ ap (λ (b : Bool). flat_map (λ (x : List ℕ). x) (cond b (pieces_in log t ++ piece ∷ []) (pieces_in log t))) (sym (ne_eqb ticket t (λ e. apart (sym e)))))
+      ∙ ap (λ (b : Bool). flat_map (λ (x : List ℕ). x) (cond b (pieces_in log t ++ piece ∷ []) (pieces_in log t)))
+      (sym (ne_eqb ticket t (λ e. apart (sym e)))))
 ]
 
 -- more room, and no entry
-pub keeps_reserved : (roster : Listed) (fed : FedState) (log reserved : LogState) (started : List ℕ) (deeds : List Deed) (done faults : ℕ) → Keeps roster fed log started deeds done faults → reserved.entries ≡ log.entries → log.room ≤ reserved.room → Keeps roster fed reserved started deeds done faults
+pub keeps_reserved : (roster : Listed) (fed : FedState) (log reserved : LogState) (started : List ℕ) (deeds : List Deed)
+    (done faults : ℕ) → Keeps roster fed log started deeds done faults → reserved.entries ≡ log.entries
+    → log.room ≤ reserved.room → Keeps roster fed reserved started deeds done faults
 keeps_reserved roster fed log reserved started deeds done faults h is more = record {
   sure = omega (arith, ap (λ (xs : List Entry). length xs) is, h.sure, more);
   numbered = h.numbered;

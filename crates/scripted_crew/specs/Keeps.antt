@@ -8,7 +8,8 @@ use Rattle.scripted_crew.specs.Script.{Deed, deeds_left, failures_in, is_listed,
 
 -- The log has room for the end of each ticket that is out, and says which these are, what each ticket was fed, which
 -- were started, which deeds are left, and how many failures were counted.
-pub record Keeps (roster : Listed) (fed : FedState) (log : LogState) (started : List ℕ) (deeds : List Deed) (done faults : ℕ) : Type 0 where
+pub record Keeps (roster : Listed) (fed : FedState) (log : LogState) (started : List ℕ) (deeds : List Deed)
+    (done faults : ℕ) : Type 0 where
   pub sure : length log.entries + length roster.marks ≤ log.room
   pub numbered : length fed.jobs ≡ roster.issued
   pub order : tickets roster.marks ≡ outs_in log.entries

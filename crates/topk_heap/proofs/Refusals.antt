@@ -18,7 +18,8 @@ remove-insert xs zero y within = refl
 remove-insert [] (suc i) y within = absurd (omega arith)
 remove-insert (x ∷ xs) (suc i) y within = ap (λ (l : List _). x ∷ l) (remove-insert xs i y (omega arith))
 
-module _ (entries : List Entry) (key : List ℕ) (score : ℤ) (size last place : ℕ) (ascending : IsAscending entries) (full : length entries ≡ size) (at : IsPlace entries key (Err place)) (ranks : RanksLast entries last)
+module _ (entries : List Entry) (key : List ℕ) (score : ℤ) (size last place : ℕ) (ascending : IsAscending entries)
+    (full : length entries ≡ size) (at : IsPlace entries key (Err place)) (ranks : RanksLast entries last)
     (before : (d : Entry) → ranks_before (get_or entries last d) (entry key score) ≡ true) where
   abbrev new : Entry
   new = entry key score
@@ -33,12 +34,14 @@ module _ (entries : List Entry) (key : List ℕ) (score : ℤ) (size last place 
   behind d = λ k c inside.
       let Behind : Entry → Type 0 = λ e. ranks_before new e ≡ false in
       elim (cases_lt k place) [
-        | inl below ↦ subst Behind (sym (get_or-insert_below entries place new c k below within)) (other k c (omega (arith, below, within)))
+        | inl below ↦ subst Behind (sym (get_or-insert_below entries place new c k below within))
+            (other k c (omega (arith, below, within)))
         | inr rest ↦ elim (cases_lt place k) [
           | inl above ↦
               let is : k - 1 + 1 ≡ k = omega arith in
               subst (λ (n : ℕ). Behind (get_or (insert entries place new) n c)) is
-              (subst Behind (sym (get_or-insert_above entries place new c (k - 1) (omega arith) within)) (other (k - 1) c (omega (arith, inside, length-insert entries place new within))))
+              (subst Behind (sym (get_or-insert_above entries place new c (k - 1) (omega arith) within))
+              (other (k - 1) c (omega (arith, inside, length-insert entries place new within))))
           | inr same ↦
               let is : place ≡ k = omega arith in
               subst (λ (n : ℕ). Behind (get_or (insert entries place new) n c)) is
@@ -47,7 +50,8 @@ module _ (entries : List Entry) (key : List ℕ) (score : ℤ) (size last place 
       ]
     where
       other : (k : ℕ) (c : Entry) → k < length entries → ranks_before new (get_or entries k c) ≡ false
-      other k c inside = not_before_more (get_or entries last d) new (get_or entries k c) (before d) (ranks.last d k c inside)
+      other k c inside = not_before_more (get_or entries last d) new (get_or entries k c) (before d)
+          (ranks.last d k c inside)
 
   many : OneTooMany size (insert entries place new) place
   many = record {
@@ -55,7 +59,8 @@ module _ (entries : List Entry) (key : List ℕ) (score : ℤ) (size last place 
     count = length-insert entries place new within ∙ ap (λ (n : ℕ). n + 1) full;
     last = record {
       within = omega (arith, length-insert entries place new within, within);
-      last = λ d. subst (λ (e : Entry). All (λ x. ranks_before e x ≡ false) (insert entries place new)) (sym (get_or-insert_at entries place new d within)) (behind d);
+      last = λ d. subst (λ (e : Entry). All (λ x. ranks_before e x ≡ false) (insert entries place new))
+          (sym (get_or-insert_at entries place new d within)) (behind d);
     };
   }
 
@@ -63,17 +68,21 @@ module _ (entries : List Entry) (key : List ℕ) (score : ℤ) (size last place 
   refused_kept = ap (best size) (sym put) ∙ best_of_many new many ∙ remove-insert entries place new within
 
   pub refused_dropped : dropped_keys size (with_score entries key score) ≡ key ∷ []
-  refused_dropped = ap (dropped_keys size) (sym put) ∙ dropped_of_many new many ∙ ap (λ (e : Entry). e.key ∷ []) (get_or-insert_at entries place new new within)
+  refused_dropped = ap (dropped_keys size) (sym put) ∙ dropped_of_many new many
+      ∙ ap (λ (e : Entry). e.key ∷ []) (get_or-insert_at entries place new new within)
 
   pub refused_many : length (with_score entries key score) ≡ size + 1
   refused_many = ap (λ (l : List Entry). length l) (sym put) ∙ many.count
 
 -- another entry than the last is written over, with one that the last doesn't rank before
-pub RanksLast-set : (entries : List Entry) (last place : ℕ) (new : Entry) → place < length entries → (last ≡ place → ⊥) → ((d : Entry) → ranks_before (get_or entries last d) new ≡ false) → RanksLast entries last → RanksLast (set entries place new) last
+pub RanksLast-set : (entries : List Entry) (last place : ℕ) (new : Entry) → place < length entries → (last ≡ place → ⊥)
+    → ((d : Entry) → ranks_before (get_or entries last d) new ≡ false) → RanksLast entries last
+    → RanksLast (set entries place new) last
 RanksLast-set entries last place new within apart behind ranks = record {
   within = omega (arith, length-set entries place new, ranks.within);
   last = λ d k c inside.
-      let kept : get_or (set entries place new) last d ≡ get_or entries last d = get_or-set_other entries place last new d apart in
+      let kept : get_or (set entries place new) last d ≡ get_or entries last d = get_or-set_other entries place last new
+      d apart in
       elim (cases_eq k place) [
         | inl same ↦
             ap (λ (e : Entry). ranks_before e (get_or (set entries place new) k c)) kept

@@ -12,7 +12,8 @@ some_sketch c =
       range = c.requires.range;
       items = items_in epoch routed;
       few = omega (arith, length-items_in-le epoch routed, c.requires.few);
-      sketches = sketch_at c.args.setting.now c.args.sketches.now routed epoch _ c.index-sketches-epoch.is c.loop-epoch-test.true c.requires.splits;
+      sketches = sketch_at c.args.setting.now c.args.sketches.now routed epoch _ c.index-sketches-epoch.is
+          c.loop-epoch-test.true c.requires.splits;
     }
 
 pub merged-requires : goal.merged-requires
@@ -25,7 +26,8 @@ epoch_text-requires-clause-sketch c =
       range = c.requires.range;
       items = items_in epoch routed;
       few = omega (arith, length-items_in-le epoch routed, c.requires.few);
-      sketches = sketch_at c.args.setting.now c.args.sketches.now routed epoch _ c.index-sketches-epoch.is c.loop-epoch-test.true c.requires.splits;
+      sketches = sketch_at c.args.setting.now c.args.sketches.now routed epoch _ c.index-sketches-epoch.is
+          c.loop-epoch-test.true c.requires.splits;
     }
 
 pub loop-epoch-preserved : goal.loop-epoch-preserved
@@ -35,15 +37,21 @@ loop-epoch-preserved c =
     let invariant = c.loop-epoch.invariant in (
       λ routed splits.
           let items = items_in epoch routed in
-          let sketches = sketch_at setting c.args.sketches.now routed epoch _ c.index-sketches-epoch.is c.loop-epoch-test.true splits in
+          let sketches = sketch_at setting c.args.sketches.now routed epoch _ c.index-sketches-epoch.is
+          c.loop-epoch-test.true splits in
           let view = c.in_ok-merged.ensures.value items sketches in
           c.in-Ok.ensures.bytes
           ∙ epochs_lines-push setting routed epoch _ _ (invariant.0 routed splits)
-          (c.deref.ensures ∙ c.in_ok-lines.ensures.text (items_in (epoch - 1) routed) items sketches view (invariant.1 routed splits)),
+          (c.deref.ensures ∙ c.in_ok-lines.ensures.text (items_in (epoch - 1) routed) items sketches view
+          (invariant.1 routed splits)),
       λ routed splits.
           let items = items_in epoch routed in
-          let sketches = sketch_at setting c.args.sketches.now routed epoch _ c.index-sketches-epoch.is c.loop-epoch-test.true splits in
-          let same : epoch ≡ epoch + 1 - 1 = omega arith in
-          (omega arith, c.in_ok-merged.ensures.value items sketches ∙ ap (λ (n : ℕ). central_view setting (items_in n routed)) same),
+          let sketches = sketch_at setting c.args.sketches.now routed epoch _ c.index-sketches-epoch.is
+          c.loop-epoch-test.true splits in
+          let same : epoch ≡ epoch + 1 - 1 = omega arith in (
+            omega arith,
+            c.in_ok-merged.ensures.value items sketches
+                ∙ ap (λ (n : ℕ). central_view setting (items_in n routed)) same,
+          ),
       (omega arith, c.in_ok-merged.ensures.merged),
     )

@@ -7,6 +7,8 @@ use Rattle.mon_central.proofs.blocks.epochs_text.Given as goal
 
 abbrev pub invariant-loop-epoch : goal.invariant-loop-epoch
 invariant-loop-epoch l =
-    ((routed : List Routed) → Splits l.setting l.sketches routed → string_bytes l.text ≡ epochs_lines l.setting routed l.epoch)
-    × ((routed : List Routed) → Splits l.setting l.sketches routed → IsEarlier l.setting l.epoch (items_in (l.epoch - 1) routed) l.before)
+    ((routed : List Routed) → Splits l.setting l.sketches routed
+    → string_bytes l.text ≡ epochs_lines l.setting routed l.epoch)
+    × ((routed : List Routed) → Splits l.setting l.sketches routed
+    → IsEarlier l.setting l.epoch (items_in (l.epoch - 1) routed) l.before)
     × IfSome l.before (λ view. (0 < l.epoch) × IsMerged l.setting view)

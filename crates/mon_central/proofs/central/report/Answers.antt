@@ -14,9 +14,12 @@ returns-in-Err-clause-picks g c =
     let before = g.I.Inputs.state c.args.inputs.now in
     let sink = g.K.Sink.state c.args.sink.now in
     let contents = before.contents in
-    picks_untraced (IsSketched (contents c.args.trace.now) c.args.topology.now c.args.setting.now) (IsRefused contents c.args.trace.now c.args.setting.now)
-    (g.I.Inputs.picks c.args.inputs.now) (g.I.Inputs.picks c.sketch.new.inputs) (contents c.args.trace.now) c.args.trace.now
-    (call_of before (g.I.Inputs.state c.sketch.new.inputs) sink sink) c.in-Err.status c.in-Err.ensures.sketched c.in-Err.ensures.picks
+    picks_untraced (IsSketched (contents c.args.trace.now) c.args.topology.now c.args.setting.now)
+    (IsRefused contents c.args.trace.now c.args.setting.now)
+    (g.I.Inputs.picks c.args.inputs.now) (g.I.Inputs.picks c.sketch.new.inputs) (contents c.args.trace.now)
+    c.args.trace.now
+    (call_of before (g.I.Inputs.state c.sketch.new.inputs) sink sink) c.in-Err.status c.in-Err.ensures.sketched
+    c.in-Err.ensures.picks
 
 pub returns-in_default-clause-picks : goal.returns-in_default-clause-picks
 returns-in_default-clause-picks g c =

@@ -13,8 +13,10 @@ pub add-requires : goal.add-requires
 add-requires c =
     let room = c.requires.room in
     let packet = c.args.packet.now in
-    subst (λ (place : ℕ). HasRoom (slice_index_or c.args.sketches.now place c.index-sketches-from.result) packet.weight) (sym c.from.ensures)
-    (has_room room.setting _ (items_in packet.epoch room.routed) packet.weight (room.splits.each packet.epoch c.index-sketches-from.result c.requires.within) room.range
+    subst (λ (place : ℕ). HasRoom (slice_index_or c.args.sketches.now place c.index-sketches-from.result) packet.weight)
+    (sym c.from.ensures)
+    (has_room room.setting _ (items_in packet.epoch room.routed) packet.weight
+    (room.splits.each packet.epoch c.index-sketches-from.result c.requires.within) room.range
     (omega (arith, length-items_in-le packet.epoch room.routed, room.few))
     (omega (arith, items_in_light packet.epoch room.routed, room.light)))
 
@@ -23,7 +25,9 @@ returns-clause-splits c = on_ok_weaker c.add.result (λ adds setting routed spli
     let packet = c.args.packet.now in
     let sketches = c.args.sketches.now in
     let old = c.index-sketches-from.result in
-    subst (λ (place : ℕ). Splits setting (set sketches place c.add.new.self) (routed ++ packet ∷ [])) (sym c.from.ensures)
+    subst (λ (place : ℕ). Splits setting (set sketches place c.add.new.self) (routed ++ packet ∷ []))
+    (sym c.from.ensures)
     (splits_add setting sketches packet old c.add.new.self routed c.requires.within
-    (subst (λ (place : ℕ). (items : List Item) → Sketches setting (slice_index_or sketches place old) items → Sketches setting c.add.new.self (items ++ item_of packet ∷ [])) c.from.ensures (adds setting))
+    (subst (λ (place : ℕ). (items : List Item) → Sketches setting (slice_index_or sketches place old) items
+    → Sketches setting c.add.new.self (items ++ item_of packet ∷ [])) c.from.ensures (adds setting))
     splits)) c.add.ensures

@@ -5,7 +5,8 @@ use Rattle.mon_command.proofs.total.count.Given as goal
 
 abbrev pub invariant-loop-packet : goal.invariant-loop-packet
 invariant-loop-packet g l =
-    Counting ((g.I.Inputs.state l.fn.inputs).contents l.trace) (g.I.Inputs.state l.inputs).rest l.reader l.packets l.keyed
+    Counting ((g.I.Inputs.state l.fn.inputs).contents l.trace) (g.I.Inputs.state l.inputs).rest l.reader l.packets
+    l.keyed
     × ((g.I.Inputs.state l.fn.inputs).faults ≤ (g.I.Inputs.state l.inputs).faults)
     × ((g.I.Inputs.state l.inputs).contents ≡ (g.I.Inputs.state l.fn.inputs).contents)
     × Picked (g.I.Inputs.picks l.fn.inputs) (g.I.Inputs.picks l.inputs) (l.trace ∷ [])

@@ -9,7 +9,8 @@ pub returns-then-restarts-total : goal.returns-then-restarts-total
 returns-then-restarts-total c =
     let value : c.total.result ≡ total (account_at c.args.accounts.now c.loop-job.job).bad =
     c.total.ensures.value ∙ ap (λ (a : Account). total a.bad) c.account_of.ensures.value in
-    let passes = lt-ltb c.args.restarts (total (account_at c.args.accounts.now c.loop-job.job).bad) (omega (arith, value, c.if-restarts-total.true)) in
+    let passes = lt-ltb c.args.restarts (total (account_at c.args.accounts.now c.loop-job.job).bad)
+    (omega (arith, value, c.if-restarts-total.true)) in
     record {
       value = sym (first_below_found (λ job. nat_lt c.args.restarts (total (account_at c.args.accounts.now job).bad))
           (length c.args.accounts.now) c.loop-job.job c.loop-job.invariant passes (omega arith));

@@ -8,9 +8,11 @@ use Rattle.replay_core.proofs.want.job_with.Goals as goal
 pub returns-then-is_ready : goal.returns-then-is_ready
 unfolding job_with
 returns-then-is_ready c =
-    let passes = ap (λ (a : Account). not a.done && tickets_of c.args.outs.now c.loop-job.job == c.args.count) (sym c.account_of.ensures.value)
+    let passes = ap (λ (a : Account). not a.done && tickets_of c.args.outs.now c.loop-job.job == c.args.count)
+    (sym c.account_of.ensures.value)
     ∙ sym c.is_ready.ensures.value ∙ c.if-is_ready.true in
     record {
-      value = sym (first_below_found (λ job. not (account_at c.args.accounts.now job).done && tickets_of c.args.outs.now job == c.args.count)
+      value = sym (first_below_found (λ job. not (account_at c.args.accounts.now job).done && tickets_of c.args.outs.now
+          job == c.args.count)
           (length c.args.accounts.now) c.loop-job.job c.loop-job.invariant passes (omega arith));
     }

@@ -21,7 +21,8 @@ pub returns-clause-value : goal.returns-clause-value
 returns-clause-value c =
     let last : c.loop-place.place ≡ length c.args.acts.now =
     omega (arith, c.loop-place-test.false, c.loop-place.auto.place-end c.requires.within) in
-    sym (c.loop-place.invariant ∙ ap (λ (k : ℕ). from_started (is_listed c.args.started.now) (drop k (deeds_of c.args.acts.now))) last
+    sym (c.loop-place.invariant ∙ ap (λ (k : ℕ). from_started (is_listed c.args.started.now)
+    (drop k (deeds_of c.args.acts.now))) last
     ∙ from_past _ c.args.acts.now (length c.args.acts.now) (omega arith))
 
 pub returns-then-is_listed-clause-started : goal.returns-then-is_listed-clause-started

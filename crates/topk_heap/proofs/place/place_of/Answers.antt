@@ -19,7 +19,8 @@ loop-low-preserved-in-Less c =
     let under : middle < high = omega (arith, c.loop-low-test.true) in
     let within : middle < length entries = omega (arith, under, c.loop-low.invariant.within) in
     between_upper entries key low high middle c.requires c.loop-low.invariant under
-    (λ d. ap (λ (e : Entry). slice_cmp nat_cmp e.key key) (get_or_default entries middle d c.index-entries-middle.result within) ∙ sym c.in-Less.ensures)
+    (λ d. ap (λ (e : Entry). slice_cmp nat_cmp e.key key)
+    (get_or_default entries middle d c.index-entries-middle.result within) ∙ sym c.in-Less.ensures)
 
 pub returns-in-Equal : goal.returns-in-Equal
 returns-in-Equal c =
@@ -30,8 +31,16 @@ returns-in-Equal c =
     let key = c.args.key.now in
     let under : middle < high = omega (arith, c.loop-low-test.true) in
     let within : middle < length entries = omega (arith, under, c.loop-low.invariant.within) in
-    let same = λ (d : Entry). ap (λ (e : Entry). slice_cmp nat_cmp e.key key) (get_or_default entries middle d c.index-entries-middle.result within) ∙ sym c.in-Equal.ensures in
-    record { place = (lesser_at entries key middle c.index-entries-middle.result c.requires within (same c.index-entries-middle.result), within, same) }
+    let same = λ (d : Entry). ap (λ (e : Entry). slice_cmp nat_cmp e.key key)
+    (get_or_default entries middle d c.index-entries-middle.result within) ∙ sym c.in-Equal.ensures in
+    record {
+      place = (
+        lesser_at entries key middle c.index-entries-middle.result c.requires within
+            (same c.index-entries-middle.result),
+        within,
+        same,
+      );
+    }
 
 pub loop-low-preserved : goal.loop-low-preserved
 loop-low-preserved c =
@@ -43,4 +52,5 @@ loop-low-preserved c =
     let under : middle < high = omega (arith, c.loop-low-test.true) in
     let within : middle < length entries = omega (arith, under, c.loop-low.invariant.within) in
     between_lower entries key low high middle c.requires c.loop-low.invariant (omega arith) under
-    (λ d. ap (λ (e : Entry). slice_cmp nat_cmp e.key key) (get_or_default entries middle d c.index-entries-middle.result within) ∙ sym c.in-Greater.ensures)
+    (λ d. ap (λ (e : Entry). slice_cmp nat_cmp e.key key)
+    (get_or_default entries middle d c.index-entries-middle.result within) ∙ sym c.in-Greater.ensures)

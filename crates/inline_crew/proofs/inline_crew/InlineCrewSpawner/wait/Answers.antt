@@ -32,9 +32,11 @@ invariant_of-self-in-Err-Fault g c =
     let ticket = c.oldest-ticket.result in
     let job = c.bytes.ensures.value ∙ now.keeps.bytes ticket c.oldest-ticket.ensures.out in
     let oldest = ap (λ (ts : List ℕ). slice_get ts 0) (sym now.keeps.order) ∙ c.oldest-ticket.ensures.first in
-    let order = c.leave-in-Err-Fault.ensures.order ∙ ap (λ (x : ℕ). filter (λ t. not (t == x)) (tickets now.roster.marks)) (sym c.oldest-ticket.ensures.value)
+    let order = c.leave-in-Err-Fault.ensures.order ∙ ap (λ (x : ℕ). filter (λ t. not (t == x))
+    (tickets now.roster.marks)) (sym c.oldest-ticket.ensures.value)
     ∙ ap (filter (λ t. not (t == ticket))) now.keeps.order in
-    let why : IsErrOf c.answer.result stops.Fault = c.in-Err-Fault.is ∙ ap (λ (e : AnswerStop). Err e) c.in-Err-Fault.field-0-is in
+    let why : IsErrOf c.answer.result stops.Fault = c.in-Err-Fault.is
+    ∙ ap (λ (e : AnswerStop). Err e) c.in-Err-Fault.field-0-is in
     record {
       keeps = keeps_left _ _ _ _ _ _ (Entry.Died ticket) _ ticket now.keeps c.leave-in-Err-Fault.ensures.issued
           c.leave-in-Err-Fault.ensures.count c.leave-in-Err-Fault.ensures.out (sym c.oldest-ticket.ensures.value)
@@ -44,8 +46,10 @@ invariant_of-self-in-Err-Fault g c =
           (∥∥₁_map now.ordered (λ before. (oldest, before)));
       answered = λ told.
           let was_told = sym c.answer.ensures.told ∙ told in
-          let here = subst (λ (xs : List ℕ). g.A.Answerer.refuses now.answerer xs) job (c.answer.ensures.refused why was_told) in
-          subst (λ (xs : List Entry). ∥ AreAnswered (g.A.Answerer.answers c.answer.new.self) (g.A.Answerer.refuses c.answer.new.self) xs ∥₁)
+          let here = subst (λ (xs : List ℕ). g.A.Answerer.refuses now.answerer xs) job
+          (c.answer.ensures.refused why was_told) in
+          subst (λ (xs : List Entry). ∥ AreAnswered (g.A.Answerer.answers c.answer.new.self)
+          (g.A.Answerer.refuses c.answer.new.self) xs ∥₁)
           (sym c.note-in-Err-Fault.ensures.entries) (∥∥₁_map (now.answered was_told) (λ before. (
             c.answer.ensures.stays.none (job_bytes now.log.entries ticket) here,
             answered_on _ _ _ _ c.answer.ensures.stays.forth c.answer.ensures.stays.none now.log.entries before,
@@ -62,17 +66,22 @@ invariant_of-self-in-Ok g c =
     let is = c.note.ensures.entries ∙ ap (λ (e : Entry). e ∷ now.log.entries) entry in
     let job = c.bytes.ensures.value ∙ now.keeps.bytes ticket c.oldest-ticket.ensures.out in
     let oldest = ap (λ (ts : List ℕ). slice_get ts 0) (sym now.keeps.order) ∙ c.oldest-ticket.ensures.first in
-    let order = c.leave.ensures.order ∙ ap (λ (x : ℕ). filter (λ t. not (t == x)) (tickets now.roster.marks)) (sym c.oldest-ticket.ensures.value)
+    let order = c.leave.ensures.order ∙ ap (λ (x : ℕ). filter (λ t. not (t == x)) (tickets now.roster.marks)) (sym
+    c.oldest-ticket.ensures.value)
     ∙ ap (filter (λ t. not (t == ticket))) now.keeps.order in
     record {
-      keeps = keeps_left _ _ _ _ _ _ (Entry.Reply ticket bytes) _ ticket now.keeps c.leave.ensures.issued c.leave.ensures.count
+      keeps = keeps_left _ _ _ _ _ _ (Entry.Reply ticket bytes) _ ticket now.keeps c.leave.ensures.issued
+          c.leave.ensures.count
           c.leave.ensures.out (sym c.oldest-ticket.ensures.value) c.forget.ensures.count c.forget.ensures.bytes is
           c.note.ensures.room order (λ t. refl);
-      ordered = subst (λ (xs : List Entry). ∥ InOrder xs ∥₁) (sym is) (∥∥₁_map now.ordered (λ before. (oldest, before)));
+      ordered = subst (λ (xs : List Entry). ∥ InOrder xs ∥₁) (sym is)
+          (∥∥₁_map now.ordered (λ before. (oldest, before)));
       answered = λ told.
           let was_told = sym c.answer.ensures.told ∙ told in
-          let here = subst (λ (xs : List ℕ). g.A.Answerer.answers now.answerer xs bytes) job (c.in-Ok.ensures.answered was_told) in
-          subst (λ (xs : List Entry). ∥ AreAnswered (g.A.Answerer.answers c.answer.new.self) (g.A.Answerer.refuses c.answer.new.self) xs ∥₁) (sym is)
+          let here = subst (λ (xs : List ℕ). g.A.Answerer.answers now.answerer xs bytes) job
+          (c.in-Ok.ensures.answered was_told) in
+          subst (λ (xs : List Entry). ∥ AreAnswered (g.A.Answerer.answers c.answer.new.self)
+          (g.A.Answerer.refuses c.answer.new.self) xs ∥₁) (sym is)
           (∥∥₁_map (now.answered was_told) (λ before. (
             c.answer.ensures.stays.forth (job_bytes now.log.entries ticket) bytes here,
             answered_on _ _ _ _ c.answer.ensures.stays.forth c.answer.ensures.stays.none now.log.entries before,

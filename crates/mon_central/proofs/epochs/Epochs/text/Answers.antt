@@ -12,17 +12,25 @@ epochs_text-requires c =
     let part = c.requires.part.1 in
     let routed = routed_of c.args.setting.now.division topology part.header part.members in record {
       range = c.requires.range;
-      number = omega (arith, ap (λ (l : List Sketched). length l) c.deref.ensures.value, part.divides.number_is, part.divides.counts_are.divided.few);
+      number = omega (
+        arith,
+        ap (λ (l : List Sketched). length l) c.deref.ensures.value,
+        part.divides.number_is,
+        part.divides.counts_are.divided.few,
+      );
       routed = routed;
       few = omega (arith, length-routed_of-le c.args.setting.now.division topology part.header part.members, part.few);
-      splits = subst (λ (l : List Sketched). Splits c.args.setting.now l routed) (sym c.deref.ensures.value) part.divides.splits;
+      splits = subst (λ (l : List Sketched). Splits c.args.setting.now l routed) (sym c.deref.ensures.value)
+          part.divides.splits;
     }
 
 pub returns-in-Ok : goal.returns-in-Ok
 returns-in-Ok c = λ topology header members divides.
     let routed = routed_of c.args.setting.now.division topology header members in
-    let splits = subst (λ (l : List Sketched). Splits c.args.setting.now l routed) (sym c.deref.ensures.value) divides.splits in
+    let splits = subst (λ (l : List Sketched). Splits c.args.setting.now l routed) (sym c.deref.ensures.value)
+    divides.splits in
     c.in-Ok.ensures
-    ∙ central_text_is c.args.setting.now topology header members _ _ _ _ _ divides.counts_are.packets divides.counts_are.keyed divides.counts_are.routed
+    ∙ central_text_is c.args.setting.now topology header members _ _ _ _ _ divides.counts_are.packets
+    divides.counts_are.keyed divides.counts_are.routed
     (ap (λ (l : List Sketched). length l) c.deref.ensures.value ∙ divides.number_is)
     (c.deref-2.ensures ∙ c.in_ok-epochs.ensures.text routed splits)

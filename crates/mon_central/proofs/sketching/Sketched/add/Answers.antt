@@ -14,9 +14,12 @@ returns-in-Some c =
     on_ok_weaker c.note.result (λ more setting items sketches.
     let packet = c.args.packet.now in
     let noted = noted_some setting items c.in-Some.is sketches.noted in
-    let notes = subst (λ (seed : ℕ). HoldsNotes c.note.new.self (notes_of seed (items ++ item_of packet ∷ []))) sketches.family
-    (more items packet.weight (subst (λ (seed : ℕ). HoldsNotes c.in-Some.all (notes_of seed items)) (sym sketches.family) noted.2)) in
-    sketches_more _ packet sketches refl c.feed.ensures.setting (c.feed.ensures.list items) (noted.0, c.note.ensures.top ∙ noted.1, notes) counts weighs refl) c.note.ensures.items
+    let notes = subst (λ (seed : ℕ). HoldsNotes c.note.new.self (notes_of seed (items ++ item_of packet ∷ [])))
+    sketches.family
+    (more items packet.weight (subst (λ (seed : ℕ). HoldsNotes c.in-Some.all (notes_of seed items))
+    (sym sketches.family) noted.2)) in
+    sketches_more _ packet sketches refl c.feed.ensures.setting (c.feed.ensures.list items)
+    (noted.0, c.note.ensures.top ∙ noted.1, notes) counts weighs refl) c.note.ensures.items
 
 pub returns-in-None : goal.returns-in-None
 returns-in-None c =
@@ -25,4 +28,5 @@ returns-in-None c =
     let counts = counts_in c.args.self.now.live c.deref_mut.ensures.value size c.count_live.ensures.live in
     let weighs = counts_in c.args.self.now.weights c.deref_mut-2.ensures.value wide c.count_live.ensures.weights in
     λ setting items sketches.
-    sketches_more _ c.args.packet.now sketches refl c.feed.ensures.setting (c.feed.ensures.list items) (noted_none setting items _ _ c.in-None.is sketches.noted) counts weighs refl
+    sketches_more _ c.args.packet.now sketches refl c.feed.ensures.setting (c.feed.ensures.list items)
+    (noted_none setting items _ _ c.in-None.is sketches.noted) counts weighs refl

@@ -12,8 +12,10 @@ loop-level-preserved c = λ items holds.
     elim c.if-dropped.branch [
       | then-dropped w ↦
           w.dropped-is ∙ w.if-dropped.true
-          ∙ sym (any_mark-more setting items level ∙ ap (λ (b : Bool). any_mark setting items level || b) (sym here ∙ w.if-dropped.true) ∙ or_true (any_mark setting items level))
+          ∙ sym (any_mark-more setting items level ∙ ap (λ (b : Bool). any_mark setting items level || b) (sym here
+          ∙ w.if-dropped.true) ∙ or_true (any_mark setting items level))
       | else-dropped w ↦
           w.dropped-is ∙ c.loop-level.invariant items holds
-          ∙ sym (any_mark-more setting items level ∙ ap (λ (b : Bool). any_mark setting items level || b) (sym here ∙ w.if-dropped.false) ∙ or_false (any_mark setting items level))
+          ∙ sym (any_mark-more setting items level ∙ ap (λ (b : Bool). any_mark setting items level || b) (sym here
+          ∙ w.if-dropped.false) ∙ or_false (any_mark setting items level))
     ]

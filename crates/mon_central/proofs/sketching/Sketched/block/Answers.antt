@@ -10,5 +10,6 @@ level_counts-requires-clause-levels c = ap (λ (s : sketch.Setting). s.levels) c
 pub returns : goal.returns
 returns c = record {
   text = if_ok_weaker c.epoch_text.result (λ text is items sketches view.
-      is ∙ block_is c.args.setting.now c.args.epoch items _ _ _ _ sketches.family sketches.number_is view (c.deref.ensures.value ∙ c.in_ok-counts.ensures.value items sketches view)) c.epoch_text.ensures.text;
+      is ∙ block_is c.args.setting.now c.args.epoch items _ _ _ _ sketches.family sketches.number_is view
+      (c.deref.ensures.value ∙ c.in_ok-counts.ensures.value items sketches view)) c.epoch_text.ensures.text;
 }

@@ -18,8 +18,13 @@ loop-level-preserved c =
           ∙ ap (λ (xs : List ℤ). xs ++ more) c.loop-level.invariant.0
           ∙ ap (λ (xs : List ℤ). counters_up_to levels level ++ xs) c.counters.ensures.value
           ∙ sym (flat_map-range (λ l. (level_at levels l).sketch.counters) level),
-      subst (AllUpTo levels.weight) (sym grown) (record { each = All-append (λ (value : ℤ). unsigned_abs value ≤ levels.weight) before more c.loop-level.invariant.1.each c.counters.ensures.bound.each }),
-      ap (λ (xs : List ℤ). length xs) grown ∙ length-append before more ∙ distributed level size (length before) (length more) c.loop-level.invariant.2 c.counters.ensures.shape,
+      subst (AllUpTo levels.weight) (sym
+          grown) (record {
+            each = All-append (λ (value : ℤ). unsigned_abs value ≤ levels.weight) before more
+                c.loop-level.invariant.1.each c.counters.ensures.bound.each;
+          }),
+      ap (λ (xs : List ℤ). length xs) grown ∙ length-append before more
+          ∙ distributed level size (length before) (length more) c.loop-level.invariant.2 c.counters.ensures.shape,
     )
   where
     distributed : (level size front back : ℕ) → front ≡ level * size → back ≡ size → front + back ≡ (level + 1) * size

@@ -11,7 +11,8 @@ pub returns-in-Some-clause-value : goal.returns-in-Some-clause-value
 returns-in-Some-clause-value c = if_ok_weaker c.keys.result (λ keys all items sketches.
     let setting = c.args.setting.now in
     let noted = noted_some setting items c.in-Some.is sketches.noted in
-    all setting.seed items noted.2 ∙ kept_all setting c.args.level (live_items setting.seed c.args.level items) noted.0) c.keys.ensures.items
+    all setting.seed items noted.2 ∙ kept_all setting c.args.level (live_items setting.seed c.args.level items) noted.0)
+    c.keys.ensures.items
 
 pub returns-in-Some-clause-few : goal.returns-in-Some-clause-few
 returns-in-Some-clause-few c =

@@ -23,11 +23,18 @@ loop-level-preserved c =
           ap (λ (l : List (Vec FlowKey Global)). map items_of l) grown
           ∙ map-append items_of before (kept ∷ [])
           ∙ ap (λ (l : List (List (List ℕ))). l ++ kept.items ∷ []) (c.loop-level.invariant.0 items sketches)
-          ∙ ap (λ (l : List (List ℕ)). keys_up_to setting items level ++ l ∷ []) (c.in_ok-kept.ensures.value items sketches)
-          ∙ sym (map-range_with_len_more (λ l. kept_keys setting l (live_items setting.seed l items)) 0 level level (omega arith))),
-      ap (λ (l : List (Vec FlowKey Global)). length l) grown ∙ length-append before (kept ∷ []) ∙ omega (arith, c.loop-level.invariant.1),
-      subst (All (λ (l : Vec FlowKey Global). IsStrictlySortedBy (slice_cmp nat_cmp) l.items)) (sym grown) (All-push (λ (l : Vec FlowKey Global). IsStrictlySortedBy (slice_cmp nat_cmp) l.items) before kept c.loop-level.invariant.2 c.in_ok-kept.ensures.ascending),
-      subst (All (λ (l : Vec FlowKey Global). length l.items ≤ 1048576)) (sym grown) (All-push (λ (l : Vec FlowKey Global). length l.items ≤ 1048576) before kept c.loop-level.invariant.3 c.in_ok-kept.ensures.few),
+          ∙ ap (λ (l : List (List ℕ)). keys_up_to setting items level ++ l ∷ [])
+          (c.in_ok-kept.ensures.value items sketches)
+          ∙ sym (map-range_with_len_more (λ l. kept_keys setting l (live_items setting.seed l items)) 0 level level
+          (omega arith))),
+      ap (λ (l : List (Vec FlowKey Global)). length l) grown ∙ length-append before (kept ∷ [])
+          ∙ omega (arith, c.loop-level.invariant.1),
+      subst (All (λ (l : Vec FlowKey Global). IsStrictlySortedBy (slice_cmp nat_cmp) l.items)) (sym grown)
+          (All-push (λ (l : Vec FlowKey Global). IsStrictlySortedBy (slice_cmp nat_cmp) l.items) before kept
+          c.loop-level.invariant.2 c.in_ok-kept.ensures.ascending),
+      subst (All (λ (l : Vec FlowKey Global). length l.items ≤ 1048576)) (sym grown)
+          (All-push (λ (l : Vec FlowKey Global). length l.items ≤ 1048576) before kept c.loop-level.invariant.3
+          c.in_ok-kept.ensures.few),
     )
 
 pub returns-clause-value : goal.returns-clause-value

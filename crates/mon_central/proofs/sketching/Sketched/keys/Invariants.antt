@@ -8,7 +8,8 @@ use Rattle.mon_central.proofs.sketching.Sketched.keys.Given as goal
 
 abbrev pub invariant-loop-level : goal.invariant-loop-level
 invariant-loop-level l =
-    ((items : List Item) → Sketches l.setting l.self items → map (λ level. level.items) l.keys.items ≡ keys_up_to l.setting items l.level)
+    ((items : List Item) → Sketches l.setting l.self items
+    → map (λ level. level.items) l.keys.items ≡ keys_up_to l.setting items l.level)
     × (length l.keys.items ≡ l.level)
     × All (λ level. IsStrictlySortedBy (slice_cmp nat_cmp) level.items) l.keys.items
     × All (λ level. length level.items ≤ 1048576) l.keys.items

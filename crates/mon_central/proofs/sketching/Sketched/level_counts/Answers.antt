@@ -12,12 +12,14 @@ loop-level-preserved c = λ items sketches view.
     let before = map (level_count setting items) (range_with_len 0 level) in
     c.in-Ok.ensures.items
     ∙ ap (λ (l : List LevelCount). l ++ c.level_count-count.result ∷ []) (c.loop-level.invariant items sketches view)
-    ∙ ap (λ (x : LevelCount). before ++ x ∷ []) (c.level_count-count.ensures.value setting items sketches view (omega arith))
+    ∙ ap (λ (x : LevelCount). before
+    ++ x ∷ []) (c.level_count-count.ensures.value setting items sketches view (omega arith))
     ∙ sym (map-range_with_len_more (level_count setting items) 0 level level (omega arith))
 
 pub returns : goal.returns
 returns c = record {
   value = λ items sketches view.
       let all : c.loop-level.level ≡ c.args.setting.now.levels + 1 = omega arith in
-      c.loop-level.invariant items sketches view ∙ ap (λ (n : ℕ). map (level_count c.args.setting.now items) (range_with_len 0 n)) all;
+      c.loop-level.invariant items sketches view ∙ ap (λ (n : ℕ). map (level_count c.args.setting.now items)
+      (range_with_len 0 n)) all;
 }

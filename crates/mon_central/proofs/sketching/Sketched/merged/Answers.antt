@@ -19,10 +19,13 @@ returns-clause-value c =
     if_ok_by_five r (λ merged of_setting of_weight of_counters of_keys of_dropped items sketches.
     let mark = any_mark (levels_setting setting) items (setting.levels + 1) in
     let all = drops_is setting items c.args.self.now.all sketches.noted in
-    let number : c.params_of.result.levels ≡ setting.levels = ap (λ (s : sketch.Setting). s.levels) c.params_of.ensures in
-    let size : setting.rows * setting.width ≡ c.params_of.result.rows * c.params_of.result.width = sym (ap (λ (s : sketch.Setting). s.rows * s.width) c.params_of.ensures) in
+    let number : c.params_of.result.levels ≡ setting.levels = ap (λ (s : sketch.Setting). s.levels)
+    c.params_of.ensures in
+    let size : setting.rows * setting.width ≡ c.params_of.result.rows * c.params_of.result.width = sym
+    (ap (λ (s : sketch.Setting). s.rows * s.width) c.params_of.ensures) in
     let parts = map (level_counters setting items) (range_with_len 0 (setting.levels + 1)) in
-    let shaped = subst (λ (n : ℕ). All (λ part. length part ≡ n) parts) size (counters_shaped setting items (setting.levels + 1)) in
+    let shaped = subst (λ (n : ℕ). All (λ part. length part ≡ n) parts) size
+    (counters_shaped setting items (setting.levels + 1)) in
     let dropped : c.if-is_none.dropped ≡ drops setting items = elim c.if-is_none.branch [
       | then-is_none w ↦
           w.dropped-is ∙ w.any_dropped-dropped.ensures items sketches.holds
@@ -48,5 +51,9 @@ returns-clause-merged c =
     if_ok_by_three c.from_levels.result (λ merged of_setting small of_keys. record {
       shape = of_setting ∙ c.params_of.ensures;
       light = small;
-      few = subst (HaveUpTo 1048576) (sym of_keys) (record { each = All-map (λ (l : List (List ℕ)). length l ≤ 1048576) (λ l. l.items) c.in_ok-keys.keys.items c.in_ok-keys.ensures.few });
+      few = subst (HaveUpTo 1048576) (sym
+          of_keys) (record {
+            each = All-map (λ (l : List (List ℕ)). length l ≤ 1048576) (λ l. l.items)
+                c.in_ok-keys.keys.items c.in_ok-keys.ensures.few;
+          });
     }) from.setting from.small from.keys

@@ -25,7 +25,13 @@ returns-in_default-path_of-clause-adds c = added (record {
 pub overflow_add-self-3 : goal.overflow_add-self-3
 overflow_add-self-3 c =
     let part = c.requires.part in
-    omega (arith, part.counts_are.routed, part.few, length-routed_of-le c.args.division.now c.args.topology.now part.header part.members)
+    omega (
+      arith,
+      part.counts_are.routed,
+      part.few,
+      length-routed_of-le c.args.division.now c.args.topology.now
+          part.header part.members,
+    )
 
 pub returns-clause-adds : goal.returns-clause-adds
 returns-clause-adds c = added (record {
@@ -34,6 +40,7 @@ returns-clause-adds c = added (record {
   keyed = omega (arith, ap (λ (k : Option (List ℕ)). cond {A = ℕ} (is_some k) 1 0) c.in-Some.is);
   routed = omega arith;
   found_is = on_path _ _ _ _ _ _ _ _ c.in-Some.is (sym c.path_of.ensures.path ∙ c.in-Some-path_of.is)
-      (c.epoch-epoch.ensures.value ∙ ap (λ (f : ℕ). epoch_at c.args.division.now.seconds f c.args.packet.now.seconds) c.unwrap_or-first.ensures)
+      (c.epoch-epoch.ensures.value ∙ ap (λ (f : ℕ). epoch_at c.args.division.now.seconds f
+      c.args.packet.now.seconds) c.unwrap_or-first.ensures)
       c.weight.ensures.value;
 })

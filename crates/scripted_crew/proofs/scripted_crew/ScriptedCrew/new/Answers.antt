@@ -13,17 +13,25 @@ invariant_of-result g c =
     let empty = c.new-4.ensures.entries in
     record {
       keeps = record {
-        sure = omega (arith, ap (λ (xs : List Entry). length xs) empty, ap (λ (ms : List Mark). length ms) c.new.ensures.marks);
+        sure = omega (
+          arith,
+          ap (λ (xs : List Entry). length xs) empty,
+          ap (λ (ms : List Mark). length ms)
+              c.new.ensures.marks,
+        );
         numbered = omega (arith, c.new-3.ensures.count, c.new.ensures.issued);
         order = ap tickets c.new.ensures.marks ∙ ap outs_in (sym empty);
         known = c.new.ensures.known;
         bytes = λ t. c.new-3.ensures.bytes t ∙ ap (λ (xs : List Entry). job_bytes xs t) (sym empty);
-        started_is = λ t. ap (λ (xs : List ℕ). is_listed xs t) c.new-2.ensures.items ∙ ap (λ (xs : List Entry). is_started xs t) (sym empty);
+        started_is = λ t. ap (λ (xs : List ℕ). is_listed xs t) c.new-2.ensures.items
+            ∙ ap (λ (xs : List Entry). is_started xs t) (sym empty);
         issued = λ t s. absurd (true≢false (sym s ∙ ap (λ (xs : List Entry). is_started xs t) empty));
         within = omega arith;
         left = ap (deeds_left (deeds_of c.args.acts.items)) (sym empty);
         counted = ap (λ (xs : List Entry). min (failures_in xs) (2 ^ 64 - 1)) (sym empty);
       };
-      scripted = λ told. subst (λ (xs : List Entry). ∥ IsScripted (script c.args.starts_fail.items c.args.feeds_fail.items c.args.seals_fail.items (deeds_of c.args.acts.items)) (g.A.Answerer.answers c.args.answerer) (g.A.Answerer.refuses c.args.answerer) xs ∥₁)
+      scripted = λ told. subst (λ (xs : List Entry). ∥ IsScripted
+          (script c.args.starts_fail.items c.args.feeds_fail.items c.args.seals_fail.items (deeds_of c.args.acts.items))
+          (g.A.Answerer.answers c.args.answerer) (g.A.Answerer.refuses c.args.answerer) xs ∥₁)
           (sym empty) ∣ tt ∣₁;
     }

@@ -12,15 +12,25 @@ invariant_of-self-then-is_listed g c =
     let h = now.keeps in
     let is = c.note.ensures.entries ∙ ap (λ xs. Entry.FeedFailed c.args.ticket ∷ xs) c.in-Ok.ensures.entries in
     let room : length now.log.entries + (length now.roster.marks + 1) ≤ c.reserve.new.self.room =
-    omega (arith, ap (λ (xs : List Entry). length xs) c.in-Ok.ensures.entries, c.in-Ok.ensures.room, c.len.ensures.value) in
+    omega (
+      arith,
+      ap (λ (xs : List Entry). length xs) c.in-Ok.ensures.entries,
+      c.in-Ok.ensures.room,
+      c.len.ensures.value,
+    ) in
     let why : is_listed now.seals_fail.items c.args.ticket ≡ true =
-    ap (λ (xs : List ℕ). is_listed xs c.args.ticket) (sym c.deref.ensures.value) ∙ sym c.is_listed.ensures.value ∙ c.if-is_listed.true in
+    ap (λ (xs : List ℕ). is_listed xs c.args.ticket) (sym c.deref.ensures.value) ∙ sym c.is_listed.ensures.value
+    ∙ c.if-is_listed.true in
     record {
-      keeps = keeps_with now.roster now.fed now.log.entries c.note.new.self now.started.items (deeds_of now.acts.items) now.done c.raised-self.result
+      keeps = keeps_with now.roster now.fed now.log.entries c.note.new.self now.started.items (deeds_of now.acts.items)
+          now.done c.raised-self.result
           (Entry.FeedFailed c.args.ticket) is (omega (arith, room, c.note.ensures.room))
           h.numbered h.order h.known h.bytes h.started_is h.issued h.within h.left
-          (raised_is (failures_in now.log.entries) now.faults c.raised-self.result h.counted c.raised-self.ensures.value);
-      scripted = λ told. subst (λ (xs : List Entry). ∥ IsScripted (script now.starts_fail.items now.feeds_fail.items now.seals_fail.items (deeds_of now.acts.items)) (g.A.Answerer.answers now.answerer) (g.A.Answerer.refuses now.answerer) xs ∥₁)
+          (raised_is (failures_in now.log.entries) now.faults c.raised-self.result h.counted
+          c.raised-self.ensures.value);
+      scripted = λ told. subst (λ (xs : List Entry). ∥ IsScripted
+          (script now.starts_fail.items now.feeds_fail.items now.seals_fail.items (deeds_of now.acts.items))
+          (g.A.Answerer.answers now.answerer) (g.A.Answerer.refuses now.answerer) xs ∥₁)
           (sym is) (∥∥₁_map (now.scripted told) (λ before. (inr why, before)));
     }
 
@@ -31,14 +41,24 @@ invariant_of-self-2 g c =
     let h = now.keeps in
     let is = c.note-2.ensures.entries ∙ ap (λ xs. Entry.Sealed c.args.ticket ∷ xs) c.in-Ok.ensures.entries in
     let room : length now.log.entries + (length now.roster.marks + 1) ≤ c.reserve.new.self.room =
-    omega (arith, ap (λ (xs : List Entry). length xs) c.in-Ok.ensures.entries, c.in-Ok.ensures.room, c.len.ensures.value) in
+    omega (
+      arith,
+      ap (λ (xs : List Entry). length xs) c.in-Ok.ensures.entries,
+      c.in-Ok.ensures.room,
+      c.len.ensures.value,
+    ) in
     let why : is_listed now.seals_fail.items c.args.ticket ≡ false =
-    ap (λ (xs : List ℕ). is_listed xs c.args.ticket) (sym c.deref.ensures.value) ∙ sym c.is_listed.ensures.value ∙ c.if-is_listed.false in
+    ap (λ (xs : List ℕ). is_listed xs c.args.ticket) (sym c.deref.ensures.value) ∙ sym c.is_listed.ensures.value
+    ∙ c.if-is_listed.false in
     record {
-      keeps = keeps_with c.seal.new.self now.fed now.log.entries c.note-2.new.self now.started.items (deeds_of now.acts.items) now.done now.faults
+      keeps = keeps_with c.seal.new.self now.fed now.log.entries c.note-2.new.self now.started.items
+          (deeds_of now.acts.items) now.done now.faults
           (Entry.Sealed c.args.ticket) is (omega (arith, room, c.seal.ensures.count, c.note-2.ensures.room))
-          (h.numbered ∙ sym c.seal.ensures.issued) (c.seal.ensures.order ∙ h.order) c.seal.ensures.known h.bytes h.started_is
+          (h.numbered ∙ sym c.seal.ensures.issued) (c.seal.ensures.order ∙ h.order) c.seal.ensures.known h.bytes
+          h.started_is
           (λ t s. omega (arith, h.issued t s, c.seal.ensures.issued)) h.within h.left h.counted;
-      scripted = λ told. subst (λ (xs : List Entry). ∥ IsScripted (script now.starts_fail.items now.feeds_fail.items now.seals_fail.items (deeds_of now.acts.items)) (g.A.Answerer.answers now.answerer) (g.A.Answerer.refuses now.answerer) xs ∥₁)
+      scripted = λ told. subst (λ (xs : List Entry). ∥ IsScripted
+          (script now.starts_fail.items now.feeds_fail.items now.seals_fail.items (deeds_of now.acts.items))
+          (g.A.Answerer.answers now.answerer) (g.A.Answerer.refuses now.answerer) xs ∥₁)
           (sym is) (∥∥₁_map (now.scripted told) (λ before. (why, before)));
     }

@@ -12,13 +12,17 @@ invariant_of-self g c =
     let now = c.args.self.now in
     let h = now.keeps in
     let is = c.note.ensures.entries in
-    let order = c.leave.ensures.order ∙ ap (λ (x : ℕ). filter (λ t. not (t == x)) (tickets now.roster.marks)) c.place_of-place.ensures.ticket
+    let order = c.leave.ensures.order ∙ ap (λ (x : ℕ). filter (λ t. not (t == x))
+    (tickets now.roster.marks)) c.place_of-place.ensures.ticket
     ∙ ap (filter (λ t. not (t == c.args.ticket))) h.order in
     record {
-      keeps = keeps_with c.leave.new.self now.fed now.log.entries c.note.new.self now.started.items (deeds_of now.acts.items) now.done now.faults
+      keeps = keeps_with c.leave.new.self now.fed now.log.entries c.note.new.self now.started.items
+          (deeds_of now.acts.items) now.done now.faults
           (Entry.Stopped c.args.ticket) is (omega (arith, h.sure, c.leave.ensures.count, c.note.ensures.room))
           (h.numbered ∙ sym c.leave.ensures.issued) order c.leave.ensures.known h.bytes h.started_is
           (λ t s. omega (arith, h.issued t s, c.leave.ensures.issued)) h.within h.left h.counted;
-      scripted = λ told. subst (λ (xs : List Entry). ∥ IsScripted (script now.starts_fail.items now.feeds_fail.items now.seals_fail.items (deeds_of now.acts.items)) (g.A.Answerer.answers now.answerer) (g.A.Answerer.refuses now.answerer) xs ∥₁)
+      scripted = λ told. subst (λ (xs : List Entry). ∥ IsScripted
+          (script now.starts_fail.items now.feeds_fail.items now.seals_fail.items (deeds_of now.acts.items))
+          (g.A.Answerer.answers now.answerer) (g.A.Answerer.refuses now.answerer) xs ∥₁)
           (sym is) (now.scripted told);
     }

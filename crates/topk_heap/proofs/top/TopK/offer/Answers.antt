@@ -39,13 +39,15 @@ pub returns-clause-dropping : goal.returns-clause-dropping
 returns-clause-dropping c =
     let fits : FitsSigned w64 c.args.score = search rules in
     let dropped = rw (c.put.ensures.items, to_z-of_z fits) at c.drop_last_ranked-dropped.ensures.dropped in
-    rw (c.of-2.ensures.value, ← c.self.view_is, ← dropped) (answer_dropping c.args.key c.drop_last_ranked-dropped.result)
+    rw (c.of-2.ensures.value, ← c.self.view_is, ← dropped)
+    (answer_dropping c.args.key c.drop_last_ranked-dropped.result)
 
 pub returns-clause-table : goal.returns-clause-table
 returns-clause-table c = (invariant_of-self c).whole
 
 pub returns-then-is_refused-clause-one_more : goal.returns-then-is_refused-clause-one_more
-returns-then-is_refused-clause-one_more c = rw (← c.self.view_is) (length-with_score _ _ _ c.self.invariant.whole.ascending)
+returns-then-is_refused-clause-one_more c = rw (← c.self.view_is)
+    (length-with_score _ _ _ c.self.invariant.whole.ascending)
 
 pub returns-then-is_refused-clause-refused : goal.returns-then-is_refused-clause-refused
 returns-then-is_refused-clause-refused c =
