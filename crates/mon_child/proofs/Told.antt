@@ -1,11 +1,10 @@
 -- Of a job that is told only one status is shown.
-use Rattle.std.proofs.Common.{◌≡◌, ℕ, List, Option, Some, IfSome, Result, Ok, Err, refl, sym, ap, subst}
-use Rattle.child_worker.specs.Child.{IsMisspelled, IsReplied}
+use Rattle.std.proofs.Common.{◌≡◌, ℕ, List, Option, Some, IfSome, Result, Ok, Err, refl, ap, subst}
 use Rattle.job_format.proofs.Reading.{one_read}
 use Rattle.job_format.specs.Job.{Job as AnyJob, SpellsJob}
-use Rattle.job_format.specs.Read.{BreaksJob, ReadsJob}
+use Rattle.job_format.specs.Read.{BreaksJob}
 use Rattle.job_format.specs.declared.fault.JobFault.{JobFault}
-use Rattle.mon_call.specs.Told.{HasBytes, IsTold, Shows}
+use Rattle.mon_call.specs.Told.{IsTold, Shows}
 use Rattle.mon_call.specs.declared.status.Status.{Status}
 use Rattle.mon_call.specs.declared.status.Status.TheVariants.{Done, Usage, ReadFault, Topology, Trace, Certificate, Job, SinkFault, Memory}
 use Rattle.mon_child.specs.Duty.{TellsChild, child_duty}

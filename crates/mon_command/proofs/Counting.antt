@@ -1,6 +1,5 @@
 -- The numbers of the packets that were read.
 use Rattle.std.proofs.Common.{◌≡◌, ◌⊎◌, ℕ, ◌+◌, ◌<◌, ◌≤◌, List, [], ◌∷◌, ◌++◌, length, cond, Bool, is_some, Option, Some, None, Ok, Err, refl, inl, inr, sym, ◌∙◌, ap, arith, length-append}
-use Rattle.std.proofs.lemmas.List.Sums.{sum_by-append}
 use Rattle.flow_keys.specs.Frame.{frame_key}
 use Rattle.flow_keys.specs.declared.link.Link.{Link}
 use Rattle.pcap_reader.specs.Trace.{Record}

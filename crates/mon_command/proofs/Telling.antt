@@ -1,12 +1,12 @@
 -- Of what is told only one status is shown, and a call without a fault answers it.
-use Rattle.std.proofs.Common.{◌≡◌, ℕ, List, Option, Result, Ok, codes, refl, ap, subst}
+use Rattle.std.proofs.Common.{◌≡◌, ℕ, List, Option, Result, codes, refl, ap, subst}
 use Rattle.mon_words.specs.declared.usage_fault.UsageFault.{UsageFault}
 use Rattle.pcap_reader.specs.Trace.{Record, Broken, IsTrace}
 use Rattle.pcap_reader.specs.declared.fault.PcapFault.{PcapFault}
 use Rattle.pcap_reader.proofs.Traces.{not_both, one_fault}
 use Rattle.routed_trace.specs.declared.fault.TraceFault.TheVariants.{Pcap, Epochs, Weight}
 use Rattle.mon_call.specs.Call.{Call, UnlessMemory}
-use Rattle.mon_call.specs.Told.{HasBytes, IsTold, Shows}
+use Rattle.mon_call.specs.Told.{IsTold, Shows}
 use Rattle.mon_call.specs.declared.status.Status.{Status}
 use Rattle.mon_call.specs.declared.status.Status.TheVariants.{Done, Usage, ReadFault, Topology, Trace, Certificate, Job, SinkFault, Memory}
 use Rattle.mon_call.proofs.Telling.{tells}

@@ -2,7 +2,6 @@
 use Rattle.std.specs.Prelude.{◌≡◌, ℕ, ◌-◌, List, [], ◌∷◌, ◌++◌, length, Option, IfSome, codes, decimal}
 use Rattle.mon_io.specs.Inputs.{IsLeft}
 use Rattle.pcap_reader.specs.Laws.{HasTrace}
-use Rattle.pcap_reader.specs.declared.fault.PcapFault.{PcapFault}
 use Rattle.pcap_reader.specs.declared.header.Header.{Header}
 use Rattle.pcap_reader.specs.Trace.{Record, Broken, IsTrace}
 use Rattle.routed_trace.specs.Routed.{keyed_in}

@@ -1,4 +1,4 @@
-use Rattle.std.proofs.Common.{◌≡◌, List, ℕ, [], ◌∷◌, ◌++◌, codes, refl, sym, subst, append-nil, inl, inr}
+use Rattle.std.proofs.Common.{List, ℕ, [], ◌∷◌, codes, refl, sym, subst, append-nil, inl, inr}
 use Rattle.mon_child.proofs.command.child.Goals as goal
 
 pub returns-in-Memory-clause-picks : goal.returns-in-Memory-clause-picks
