@@ -1,5 +1,5 @@
 //! A job of two frames.
-ghost use Rattle.std.specs.Prelude.{◌≡◌, length, IfOk};
+ghost use Rattle.std.specs.Prelude.{◌≡◌, ◌≤◌, length, IfOk};
 
 use crate::jobs::{assert_no_job, assert_written, job_of};
 use crate::made::params;
@@ -39,7 +39,7 @@ fn a_full_frame_and_one_item(rt: HostRuntime) -> Result<(), Fail> {
     assert_eq!(rt; bytes.len(), 196_686);
     let job = job_of(&rt, rt.alloc(), &bytes);
     assert_written(&rt, rt.alloc(), &job, &bytes);
-    match job {
+    match &job {
         Job::Replay { items, .. } => assert_eq!(rt; items.len(), 4097),
         Job::Solve { .. } => panic!(rt; "a replay job"),
     }

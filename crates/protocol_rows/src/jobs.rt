@@ -39,14 +39,14 @@ pub(crate) fn assert_written(rt: &impl Abort, alloc: Global, job: &Job, bytes: &
 fn a_job_without_items(rt: HostRuntime) -> Result<(), Fail> {
     let job = job_of(&rt, rt.alloc(), &EMPTY_JOB);
     assert_written(&rt, rt.alloc(), &job, &EMPTY_JOB);
-    match job {
+    match &job {
         Job::Replay {
-            job,
+            job: number,
             params: numbers,
             items,
         } => {
-            assert_eq!(rt; job, 0);
-            assert_eq!(rt; numbers, params(&rt));
+            assert_eq!(rt; *number, 0);
+            assert_eq!(rt; *numbers, params(&rt));
             assert_eq!(rt; items.len(), 0);
         }
         Job::Solve { .. } => panic!(rt; "a replay job"),
@@ -69,16 +69,16 @@ fn a_byte_less_and_a_byte_more(rt: HostRuntime) -> Result<(), Fail> {
 fn a_search(rt: HostRuntime) -> Result<(), Fail> {
     let job = job_of(&rt, rt.alloc(), &SOLVE_JOB);
     assert_written(&rt, rt.alloc(), &job, &SOLVE_JOB);
-    match job {
+    match &job {
         Job::Solve {
-            job,
+            job: number,
             nodes,
             problem,
         } => {
-            assert_eq!(rt; job, 0);
-            assert_eq!(rt; nodes, 1024);
+            assert_eq!(rt; *number, 0);
+            assert_eq!(rt; *nodes, 1024);
             let mut out = Vec::new(rt.alloc());
-            assert!(rt; write_solve(0, 1024, &problem, &mut out).is_ok());
+            assert!(rt; write_solve(0, 1024, problem, &mut out).is_ok());
             assert!(rt; out.as_slice() == SOLVE_JOB.as_slice());
         }
         Job::Replay { .. } => panic!(rt; "a search"),
