@@ -8,7 +8,7 @@ use crew::Answerer;
 use flow_keys::FlowKey;
 use job_format::Item;
 use reply_format::{Expect, Reply, ReplyFault};
-use std::alloc::Global;
+use std::alloc::{AllocError, Global};
 use std::process::Abort;
 use std::test::Fail;
 
@@ -28,16 +28,16 @@ const WORDS: [u32; 11] = [
 ];
 
 // The reply to a job of three packets of one key.
-fn reply_of_three(rt: &impl Abort, alloc: Global) -> Vec<u8> {
+fn reply_of_three(rt: &impl Abort, alloc: Global) -> Result<Vec<u8>, AllocError> {
     let key = FlowKey::from_words(WORDS).expect(rt, "a valid key");
-    let item = Item { key, weight: 1 };
+    let items = vec![in alloc; Item { key, weight: 1 }; 3]?;
     let mut job = Vec::new(alloc);
     assert!(rt; write_head(0, &params(rt), &mut job).is_ok());
-    assert!(rt; write_frame(&[item, item, item], &mut job).is_ok());
+    assert!(rt; write_frame(&items, &mut job).is_ok());
     assert!(rt; write_frame(&[], &mut job).is_ok());
     let mut reply = Vec::new(alloc);
     assert!(rt; WorkerAnswer::new(alloc).answer(&job, &mut reply).is_ok());
-    reply
+    Ok(reply)
 }
 
 fn expect_three(rt: &impl Abort) -> Expect {
@@ -51,7 +51,7 @@ fn expect_three(rt: &impl Abort) -> Expect {
 
 #[test]
 fn three_items_are_counted(rt: HostRuntime) -> Result<(), Fail> {
-    let bytes = reply_of_three(&rt, rt.alloc());
+    let bytes = reply_of_three(&rt, rt.alloc())?;
     assert_eq!(rt; bytes.len(), 86);
     match read_reply(rt.alloc(), &bytes, &expect_three(&rt)) {
         Ok(Reply::Replay { body, .. }) => {
@@ -76,7 +76,7 @@ fn three_items_are_counted(rt: HostRuntime) -> Result<(), Fail> {
 
 #[test]
 fn a_changed_reply_is_refused(rt: HostRuntime) -> Result<(), Fail> {
-    let bytes = reply_of_three(&rt, rt.alloc());
+    let bytes = reply_of_three(&rt, rt.alloc())?;
     // The bucket, the value and the family of the key.
     let table = [
         (30, 16, ReplyFault::CounterPlace),
