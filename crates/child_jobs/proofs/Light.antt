@@ -12,7 +12,8 @@ use Rattle.child_jobs.specs.Reader.{HasTaken, kept, known_head}
 use Rattle.child_jobs.specs.declared.reader.JobReader.{JobReader}
 use Rattle.child_jobs.proofs.Moves.{at_state}
 
-counts_at : (r : JobReader) (bytes : List ℕ) (given : List Item) → HasTaken r bytes given → Counts r.place (items_in bytes)
+counts_at : (r : JobReader) (bytes : List ℕ) (given : List Item) → HasTaken r bytes given
+    → Counts r.place (items_in bytes)
 counts_at r bytes given taken =
     counted r.place bytes (take r.filled r.held) (sym taken.leads ∙ at_state r taken.going)
 
@@ -39,6 +40,8 @@ front_none : (xs ys : List Item) → xs ++ ys ≡ [] → xs ≡ []
 front_none [] ys none = refl
 front_none (x ∷ xs) ys none = absurd (cc)
 
-pub given_none : (r : JobReader) (bytes : List ℕ) (given : List Item) → HasTaken r bytes given → known_head r ≡ None → given ≡ []
+pub given_none : (r : JobReader) (bytes : List ℕ) (given : List Item) → HasTaken r bytes given → known_head r ≡ None
+    → given ≡ []
 given_none r bytes given taken none =
-    front_none given (kept r) (sym taken.gives ∙ none_before r.place (items_in bytes) none (counts_at r bytes given taken))
+    front_none given (kept r) (sym taken.gives ∙ none_before r.place (items_in bytes) none (counts_at r bytes given
+        taken))

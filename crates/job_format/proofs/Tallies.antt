@@ -49,7 +49,8 @@ module _ (items : List Item) where
   behind h kinds.Replay none = none
   behind h kinds.Solve none = none
 
-  head_on : (step : HeadStep) (h : HeadNumbers) (t : Place) (b : List ℕ) → items ≡ [] → judge_place (Head step h) b ≡ Ok t
+  head_on : (step : HeadStep) (h : HeadNumbers) (t : Place) (b : List ℕ) → items ≡ []
+      → judge_place (Head step h) b ≡ Ok t
       → Counts t items
   unfolding judge_place
   head_on steps.Magic h t b none ok = right_led (λ p. Counts p items) _ _ _ t (λ e. none) ok
@@ -107,7 +108,8 @@ module _ (items : List Item) where
     light = light;
   }
 
-  item_on : (last : Bool) (h : HeadNumbers) (tally : Tally) (left : ℕ) (more : List Item) → nat_le left 1 ≡ last → 1 ≤ left
+  item_on : (last : Bool) (h : HeadNumbers) (tally : Tally) (left : ℕ) (more : List Item) → nat_le left 1 ≡ last
+      → 1 ≤ left
       → Tallies tally (left - 1) more → Counts (if last then Count h tally else Key h tally (left - 1)) more
   item_on true h tally left more end some is =
       let none : left - 1 ≡ 0 = grind (arith, nat_tests) in subst (λ (n : ℕ). Tallies tally n more) none is
@@ -122,15 +124,18 @@ module _ (items : List Item) where
   unfolding judge_place
   weight_on h tally left key t b is ok =
       let more : List Item = items ++ record { key = key; weight = little_number 4 b } ∷ [] in
-      right_led (λ p. Counts p more) _ _ _ t (λ light. item_on (nat_le left 1) h (with_weight tally (little_number 4 b)) left
+      right_led (λ p. Counts p more) _ _ _ t (λ light. item_on (nat_le left 1) h (with_weight tally (little_number 4 b))
+          left
       more refl is.0 (one_more tally left key (little_number 4 b) is.0 is.1 (light_of _ light))) ok
 
-  key_on : (h : HeadNumbers) (tally : Tally) (left : ℕ) (t : Place) (b : List ℕ) → ((1 ≤ left) × Tallies tally left items)
+  key_on : (h : HeadNumbers) (tally : Tally) (left : ℕ) (t : Place) (b : List ℕ)
+      → ((1 ≤ left) × Tallies tally left items)
       → judge_place (Key h tally left) b ≡ Ok t → Counts t items
   unfolding judge_place
   key_on h tally left t b is ok = right_led (λ p. Counts p items) _ _ _ t (λ e. is) ok
 
-  need_done : (done : Bool) (x y : SolveNumbers) → items ≡ [] → Counts (if done then SolveEnd x else Solve solves.Load y) items
+  need_done : (done : Bool) (x y : SolveNumbers) → items ≡ []
+      → Counts (if done then SolveEnd x else Solve solves.Load y) items
   need_done true x y none = none
   need_done false x y none = none
 
@@ -144,7 +149,8 @@ module _ (items : List Item) where
   site_done true x y none = none
   site_done false x y none = none
 
-  solve_on : (step : SolveStep) (n : SolveNumbers) (t : Place) (b : List ℕ) → items ≡ [] → judge_place (Solve step n) b ≡ Ok t
+  solve_on : (step : SolveStep) (n : SolveNumbers) (t : Place) (b : List ℕ) → items ≡ []
+      → judge_place (Solve step n) b ≡ Ok t
       → Counts t items
   unfolding judge_place
   solve_on solves.Nodes n t b none ok = right_led (λ p. Counts p items) _ _ _ t (λ e. none) ok
@@ -185,7 +191,8 @@ counts_on (SolveEnd n) t b items is ok = absurd (solve_ended n t b ok)
 pub counted : (place : Place) (bytes part : List ℕ) → reached job_format (At job_start []) bytes ≡ At place part
     → Counts place (items_in bytes)
 counted place bytes part leads =
-    yields_keep job_format item_gives Counts (λ s t field so_far is ok. counts_on s t field so_far is ok) job_start place part
+    yields_keep job_format item_gives Counts (λ s t field so_far is ok. counts_on s t field so_far is ok) job_start
+        place part
     bytes refl leads
 
 -- so they are within the limits of a job
@@ -193,8 +200,10 @@ pub within_limits : (place : Place) (items : List Item) → Counts place items
     → (weight_of items ≤ weight_limit) × (length items ≤ item_limit)
 within_limits (Head step h) items is = none_within items is
 within_limits (Count h tally) items is = (omega (arith, is.weight, is.light), omega (arith, is.count, is.few))
-within_limits (Key h tally left) items is = (omega (arith, is.1.weight, is.1.light), omega (arith, is.1.count, is.1.few))
-within_limits (Weight h tally left key) items is = (omega (arith, is.1.weight, is.1.light), omega (arith, is.1.count, is.1.few))
+within_limits (Key h tally left) items is = (omega (arith, is.1.weight, is.1.light), omega
+    (arith, is.1.count, is.1.few))
+within_limits (Weight h tally left key) items is = (omega (arith, is.1.weight, is.1.light), omega
+    (arith, is.1.count, is.1.few))
 within_limits (ReplayEnd h tally) items is = (omega (arith, is.weight, is.light), omega (arith, is.count, is.few))
 within_limits (Solve step n) items is = none_within items is
 within_limits (SolveEnd n) items is = none_within items is

@@ -8,6 +8,7 @@ returns-in-Memory-clause-picks g c = elim c.in-Memory.ensures.picks [
     front = [];
     back = codes "-" ∷ [];
     parts = refl;
-    picked = λ earlier stood. subst (λ (l : List (List ℕ)). g.I.Inputs.picks c.answer.new.inputs l) (sym (append-nil earlier)) (nothing earlier stood);
+    picked = λ earlier stood. subst (λ (l : List (List ℕ)). g.I.Inputs.picks c.answer.new.inputs l)
+        (sym (append-nil earlier)) (nothing earlier stood);
   }
 ]
