@@ -67,8 +67,8 @@ reached-stand {S} {F} g takes s t (f ∷ fs) rest (whole, (u, (ok, stand))) =
     ap (λ (l : List ℕ). reached g (At s []) l) (append_assoc f (concat fs) rest)
     ∙ reached-append g (At s []) f (concat fs ++ rest)
     ∙ ap (λ (r : Reached S F). reached g r (concat fs ++ rest))
-        (reached-field g s [] f (omega (arith, whole, takes.some s)) (omega (arith, whole))
-        ∙ ap (λ (r : Result S F). judged r) ok)
+    (reached-field g s [] f (omega (arith, whole, takes.some s)) (omega (arith, whole))
+    ∙ ap (λ (r : Result S F). judged r) ok)
     ∙ reached-stand g takes u t fs rest stand
 
 pub ends-reached : {S F : Type 0} (g : Format S F) → TakesBytes g → {start place : S} {bytes part : List ℕ}
@@ -86,7 +86,7 @@ breaks-reached {S} {F} g takes {start} {bytes} {fault} breaks =
     ∙ reached-append g (At breaks.place []) breaks.field breaks.rest
     ∙ ap (λ (r : Reached S F). reached g r breaks.rest)
     (reached-field g breaks.place [] breaks.field (omega (arith, breaks.whole, takes.some breaks.place))
-        (omega (arith, breaks.whole)) ∙ ap (λ (r : Result S F). judged r) breaks.judged)
+    (omega (arith, breaks.whole)) ∙ ap (λ (r : Result S F). judged r) breaks.judged)
     ∙ reached-broken g fault breaks.rest
 
 -- what is known where bytes lead somewhere
@@ -163,14 +163,14 @@ leads_onward : {S F : Type 0} (g : Format S F) → TakesBytes g → (start : S) 
     → Leads g start bytes now → Leads g start (bytes ++ b ∷ []) (onward g now b)
 leads_onward g takes start bytes (Broken fault) b breaks =
     subst (λ r. Leads g start (bytes ++ b ∷ []) r) (sym (onward_broken g fault b))
-        (leads_broken g start bytes fault b breaks)
+    (leads_broken g start bytes fault b breaks)
 leads_onward g takes start bytes (At place part) b ends = elim (cases_lt (length part + 1) (g.size place)) [
   | inl less ↦ subst (λ r. Leads g start (bytes ++ b ∷ []) r) (sym (onward_more g place part b less))
       (leads_part g start place bytes part b ends less)
   | inr full ↦
       let last : length part + 1 ≡ g.size place = omega (arith, full, ends.short) in
       subst (λ r. Leads g start (bytes ++ b ∷ []) r) (sym (onward_last g place part b last))
-          (leads_on g takes start place bytes part b ends last (g.judge place (part ++ b ∷ [])) refl)
+      (leads_on g takes start place bytes part b ends last (g.judge place (part ++ b ∷ [])) refl)
 ]
 
 leads_more : {S F : Type 0} (g : Format S F) → TakesBytes g → (start : S) (bytes more : List ℕ) (now : Reached S F)
@@ -186,7 +186,7 @@ pub leads : {S F : Type 0} (g : Format S F) → TakesBytes g → (start : S) (by
     → Leads g start bytes (reached g (At start []) bytes)
 leads g takes start bytes =
     leads_more g takes start [] bytes (At start
-        []) (record { fields = []; stand = refl; parts = refl; short = takes.some start })
+    []) (record { fields = []; stand = refl; parts = refl; short = takes.some start })
 
 -- a field that stands, and what follows
 pub reached-on : {S F : Type 0} (g : Format S F) → TakesBytes g → (s t : S) (field rest : List ℕ)
@@ -194,7 +194,7 @@ pub reached-on : {S F : Type 0} (g : Format S F) → TakesBytes g → (s t : S) 
 reached-on {S} {F} g takes s t field rest whole ok =
     reached-append g (At s []) field rest
     ∙ ap (λ (r : Reached S F). reached g r rest) (reached-field g s [] field (omega (arith, whole, takes.some s))
-        (omega (arith, whole)) ∙ ap (λ (r : Result S F). judged r) ok)
+    (omega (arith, whole)) ∙ ap (λ (r : Result S F). judged r) ok)
 
 -- what each field that stands keeps of the bytes so far
 pub record Keeps {S F : Type 0} (g : Format S F) (Says : S → List ℕ → Type 0) : Type 0 where
@@ -209,7 +209,7 @@ stand_says g Says keeps s t [] front is says = subst (λ u. Says u (front ++ [])
     (subst (λ (l : List ℕ). Says s l) (sym (append-nil front)) says)
 stand_says g Says keeps s t (f ∷ fs) front (whole, (u, (ok, stand))) says =
     subst (λ (l : List ℕ). Says t l) (append_assoc front f (concat fs))
-        (stand_says g Says keeps u t fs (front ++ f) stand (keeps.on s u front f says whole ok))
+    (stand_says g Says keeps u t fs (front ++ f) stand (keeps.on s u front f says whole ok))
 
 -- and of every place that bytes lead to
 pub reached_says : {S F : Type 0} (g : Format S F) (Says : S → List ℕ → Type 0) → TakesBytes g → Keeps g Says
@@ -217,7 +217,7 @@ pub reached_says : {S F : Type 0} (g : Format S F) (Says : S → List ℕ → Ty
     → (front : List ℕ) × ((bytes ≡ front ++ part) × Says place front)
 reached_says g Says takes keeps start place bytes part says is =
     let ends : EndsInside g start bytes place part = subst (λ r. Leads g start bytes r) is
-        (leads g takes start bytes) in
+    (leads g takes start bytes) in
     (concat ends.fields, (ends.parts, stand_says g Says keeps start place ends.fields [] ends.stand says))
 
 -- a field that stands

@@ -13,7 +13,7 @@ pub words_read : (a b c d e f g h i j k : ℕ) → a < 2 ^ 32 → b < 2 ^ 32 →
     → f < 2 ^ 32
     → g < 2 ^ 32 → h < 2 ^ 32 → i < 2 ^ 32 → j < 2 ^ 32 → k < 2 ^ 32
     → key_words (key_bytes (a ∷ b ∷ c ∷ d ∷ e ∷ f ∷ g ∷ h ∷ i ∷ j ∷ k ∷ [])) ≡ a ∷ b ∷ c ∷ d ∷ e ∷ f ∷ g ∷ h ∷ i ∷ j ∷
-        k ∷ []
+    k ∷ []
 unfolding key_bytes key_words word_at
 words_read a b c d e f g h i j k pa pb pc pd pe pf pg ph pi pj pk =
     λ x. number_4 a pa x ∷ number_4 b pb x ∷ number_4 c pc x ∷ number_4 d pd x ∷ number_4 e pe x ∷ number_4 f pf x

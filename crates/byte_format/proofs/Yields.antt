@@ -13,7 +13,7 @@ module _ {S F X : Type 0} (g : Format S F) (gives : S → List ℕ → List X) w
   yields-append now (x ∷ xs) ys =
       ap (λ (l : List X). given g gives now x ++ l) (yields-append (onward g now x) xs ys)
       ∙ sym (append_assoc (given g gives now x) (yields g gives (onward g now x) xs)
-          (yields g gives (reached g (onward g now x) xs) ys))
+      (yields g gives (reached g (onward g now x) xs) ys))
 
   given_none : (place : S) (part : List ℕ) (b : ℕ) → length part + 1 < g.size place
       → given g gives (At place part) b ≡ []
@@ -30,7 +30,7 @@ module _ {S F X : Type 0} (g : Format S F) (gives : S → List ℕ → List X) w
   yields-part place part [] less = refl
   yields-part place part (b ∷ more) less =
       ap (λ (l : List X). l ++ yields g gives (onward g (At place part) b) more)
-          (given_none place part b (omega (arith, less)))
+      (given_none place part b (omega (arith, less)))
       ∙ ap (λ (r : Reached S F). yields g gives r more) (onward_more g place part b (omega (arith, less)))
       ∙ yields-part place (part ++ b ∷ []) more (omega (arith, less, length-append part (b ∷ [])))
 
@@ -43,7 +43,7 @@ module _ {S F X : Type 0} (g : Format S F) (gives : S → List ℕ → List X) w
       ∙ given_field place part b (omega (arith, full))
   yields-field place part (b ∷ c ∷ more) some full =
       ap (λ (l : List X). l ++ yields g gives (onward g (At place part) b) (c ∷ more))
-          (given_none place part b (omega (arith, full)))
+      (given_none place part b (omega (arith, full)))
       ∙ ap (λ (r : Reached S F). yields g gives r (c ∷ more)) (onward_more g place part b (omega (arith, full)))
       ∙ yields-field place (part ++ b ∷ []) (c ∷ more) (omega arith) (omega (arith, full, length-append part (b ∷ [])))
       ∙ ap (λ (l : List ℕ). gives place l) (append_assoc part (b ∷ []) (c ∷ more))
@@ -61,7 +61,7 @@ GaveAt Is (Broken fault) so_far = Unit {0}
 
 module _ {S F X : Type 0} (g : Format S F) (gives : S → List ℕ → List X) (Is : S → List X → Type 0)
     (on : (s t : S) (field : List ℕ) (so_far : List X) → Is s so_far → g.judge s field ≡ Ok t
-        → Is t (so_far ++ gives s field)) where
+    → Is t (so_far ++ gives s field)) where
   gave_judged : (s : S) (field : List ℕ) (so_far : List X) (r : Result S F) → g.judge s field ≡ r → Is s so_far
       → GaveAt Is (judged r) (so_far ++ gives s field)
   gave_judged s field so_far (Ok t) same is = on s t field so_far is same

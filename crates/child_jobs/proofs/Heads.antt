@@ -49,7 +49,7 @@ module _ (head : Head) where
       let last : SolveNumbers = record n { load = 0; via = []; hops_left = 0 } in
       knows_if (nat_le n.hops_left 1) (behind_need last)
       (Solve solves.Hop (record n { via = n.via ++ site ∷ []; hops_left = n.hops_left - 1 })) (need_knows last here)
-          here
+      here
 
   step_knows : (step : SolveStep) (n : SolveNumbers) (b : List ℕ) → Knows (Solve step n)
       → IfOk (judge_solve step n b) Knows

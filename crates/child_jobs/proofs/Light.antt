@@ -44,4 +44,4 @@ pub given_none : (r : JobReader) (bytes : List ℕ) (given : List Item) → HasT
     → given ≡ []
 given_none r bytes given taken none =
     front_none given (kept r) (sym taken.gives ∙ none_before r.place (items_in bytes) none (counts_at r bytes given
-        taken))
+    taken))

@@ -125,7 +125,7 @@ module _ (items : List Item) where
   weight_on h tally left key t b is ok =
       let more : List Item = items ++ record { key = key; weight = little_number 4 b } ∷ [] in
       right_led (λ p. Counts p more) _ _ _ t (λ light. item_on (nat_le left 1) h (with_weight tally (little_number 4 b))
-          left
+      left
       more refl is.0 (one_more tally left key (little_number 4 b) is.0 is.1 (light_of _ light))) ok
 
   key_on : (h : HeadNumbers) (tally : Tally) (left : ℕ) (t : Place) (b : List ℕ)
@@ -192,7 +192,7 @@ pub counted : (place : Place) (bytes part : List ℕ) → reached job_format (At
     → Counts place (items_in bytes)
 counted place bytes part leads =
     yields_keep job_format item_gives Counts (λ s t field so_far is ok. counts_on s t field so_far is ok) job_start
-        place part
+    place part
     bytes refl leads
 
 -- so they are within the limits of a job
@@ -200,10 +200,16 @@ pub within_limits : (place : Place) (items : List Item) → Counts place items
     → (weight_of items ≤ weight_limit) × (length items ≤ item_limit)
 within_limits (Head step h) items is = none_within items is
 within_limits (Count h tally) items is = (omega (arith, is.weight, is.light), omega (arith, is.count, is.few))
-within_limits (Key h tally left) items is = (omega (arith, is.1.weight, is.1.light), omega
-    (arith, is.1.count, is.1.few))
-within_limits (Weight h tally left key) items is = (omega (arith, is.1.weight, is.1.light), omega
-    (arith, is.1.count, is.1.few))
+within_limits (Key h tally left) items is = (
+  omega (arith, is.1.weight, is.1.light),
+  omega
+      (arith, is.1.count, is.1.few),
+)
+within_limits (Weight h tally left key) items is = (
+  omega (arith, is.1.weight, is.1.light),
+  omega
+      (arith, is.1.count, is.1.few),
+)
 within_limits (ReplayEnd h tally) items is = (omega (arith, is.weight, is.light), omega (arith, is.count, is.few))
 within_limits (Solve step n) items is = none_within items is
 within_limits (SolveEnd n) items is = none_within items is

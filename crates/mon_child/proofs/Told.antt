@@ -40,7 +40,7 @@ when_spelled contents (Trace fault) told shows = absurd shows
 when_spelled contents (Certificate fault) told shows = absurd shows
 when_spelled contents (Job fault) told shows =
     absurd (no_breach told.0 told.2.0 fault told.2.1 (at_told contents told.0 (λ bytes. BreaksJob bytes fault) told.1
-        shows))
+    shows))
 when_spelled contents SinkFault told shows = absurd shows
 when_spelled contents Memory told shows = absurd shows
 
@@ -48,7 +48,7 @@ when_broken : (contents : Option (List ℕ)) (fault : JobFault) (status : Status
     → Shows (child_duty contents) status → status ≡ Job fault
 when_broken contents fault Done told shows =
     absurd (no_breach told.0 shows.1.job fault (at_told contents told.0 (λ bytes. SpellsJob shows.1.job bytes) told.1
-        shows.1.spelled) told.2)
+    shows.1.spelled) told.2)
 when_broken contents fault (Usage other) told shows = absurd shows
 when_broken contents fault (ReadFault input) told shows = absurd shows
 when_broken contents fault (Topology other) told shows = absurd shows
@@ -56,7 +56,7 @@ when_broken contents fault (Trace other) told shows = absurd shows
 when_broken contents fault (Certificate other) told shows = absurd shows
 when_broken contents fault (Job other) told shows =
     ap Job (one_breach told.0 fault other told.2 (at_told contents told.0 (λ bytes. BreaksJob bytes other) told.1
-        shows))
+    shows))
 when_broken contents fault SinkFault told shows = absurd shows
 when_broken contents fault Memory told shows = absurd shows
 

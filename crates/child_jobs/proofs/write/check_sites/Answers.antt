@@ -10,4 +10,4 @@ loop-site-preserved c = λ k d.
     below_more (λ (j : ℕ). IsSite (get_or c.args.sites.now j d)) c.loop-site.site-index
     (λ j under. c.loop-site.invariant j d under)
     (subst IsSite (get_or_default c.args.sites.now c.loop-site.site-index none d c.loop-site-test.true)
-        c.check_site.ensures) k
+    c.check_site.ensures) k
