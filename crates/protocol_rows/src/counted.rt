@@ -77,12 +77,15 @@ fn three_items_are_counted(rt: HostRuntime) -> Result<(), Fail> {
 #[test]
 fn a_changed_reply_is_refused(rt: HostRuntime) -> Result<(), Fail> {
     let bytes = reply_of_three(&rt, rt.alloc())?;
-    // The bucket, the value and the family of the key.
+    // The bucket, the value, and the family and the protocol of the key.
     let table = [
         (30, 16, ReplyFault::CounterPlace),
+        (31, 1, ReplyFault::CounterPlace),
         (32, 0, ReplyFault::CounterRange),
         (32, 4, ReplyFault::CounterRange),
+        (39, 1, ReplyFault::CounterRange),
         (42, 5, ReplyFault::HeapOrder),
+        (85, 1, ReplyFault::HeapOrder),
     ];
     for (at, byte, fault) in table {
         let other = changed(rt.alloc(), &bytes, at, byte)?;

@@ -9,12 +9,14 @@ use std::test::Fail;
 fn no_job_without_items(rt: HostRuntime) -> Result<(), Fail> {
     let table = [
         (0, 0x54, JobFault::Magic),
+        (3, 0, JobFault::Magic),
         (4, 2, JobFault::Version),
         (5, 2, JobFault::Shape),
         (10, 17, JobFault::Shape),
         (11, 2, JobFault::Shape),
         (12, 17, JobFault::Shape),
         (14, 0, JobFault::Shape),
+        (15, 5, JobFault::Shape),
     ];
     for (at, byte, fault) in table {
         let bytes = changed(rt.alloc(), &EMPTY_JOB, at, byte)?;

@@ -63,13 +63,16 @@ fn a_changed_reply_of_version_1_is_refused(rt: HostRuntime) -> Result<(), Fail> 
     let bytes = empty_reply(rt.alloc())?;
     let table = [
         (0, 0x54, ReplyFault::Magic),
+        (3, 0x51, ReplyFault::Magic),
         (4, 3, ReplyFault::Version),
         (5, 1, ReplyFault::Job),
-        (6, 1, ReplyFault::Job),
+        (9, 1, ReplyFault::Job),
         (10, 1, ReplyFault::Shape),
+        (15, 1, ReplyFault::Shape),
         (16, 1, ReplyFault::Totals),
-        (20, 1, ReplyFault::Totals),
+        (27, 1, ReplyFault::Totals),
         (28, 1, ReplyFault::CounterRange),
+        (155, 1, ReplyFault::CounterRange),
         (156, 2, ReplyFault::HeapLength),
         (157, 0x80, ReplyFault::HeapLength),
     ];
