@@ -2,7 +2,7 @@
 //!
 //! - `rows`: `total`, `central` and words, and the number and the line of each status; `rows/epochs`: epochs and
 //!   topologies; `rows/weights`: weights in original bytes; `rows/check`: `check`; `rows/child`: `child`; `rows/lines`:
-//!   the lines of faults
+//!   the lines of faults and of the ends of a search
 //!
 //! There is no code here but these tests: each stands on the public calls of `mon_command`.
 #![tactic(auto)]

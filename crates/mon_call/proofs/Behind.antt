@@ -11,7 +11,7 @@ use Rattle.mon_call.specs.Call.{Answers, Duty, IsSuffix, Picks, Reading, call_of
 use Rattle.mon_call.specs.declared.status.Input.{Input}
 use Rattle.mon_call.specs.declared.status.Input.TheVariants as inputs
 use Rattle.mon_call.specs.declared.status.Status.{Status}
-use Rattle.mon_call.specs.declared.status.Status.TheVariants.{Done, Usage, ReadFault, Topology, Trace, Certificate, Job, SinkFault, Memory}
+use Rattle.mon_call.specs.declared.status.Status.TheVariants.{Done, ReadFault, Topology, Trace, Certificate, Job, SinkFault, Memory}
 
 -- what is left of an input behind another one is a suffix
 pub suffix_left : (contents mid now : Option (List ℕ)) → IsOver mid → IsLeft contents mid now → IsSuffix contents now
@@ -44,7 +44,6 @@ pub answers_behind : {inner outer : Duty} (before mid after : InputState) (sink 
     → Answers outer (call_of before after sink sink_after) status
 answers_behind before mid after sink sink_after Done behind later answers =
     record { text = answers.text; is_due = behind.due answers.text answers.is_due; grew = answers.grew }
-answers_behind before mid after sink sink_after (Usage fault) behind later answers = absurd answers
 answers_behind before mid after sink sink_after (ReadFault input) behind later answers = (
   rose_later before.faults mid.faults after.faults later answers.0,
   behind.left input after.rest answers.1,
@@ -63,6 +62,7 @@ answers_behind before mid after sink sink_after SinkFault behind later answers =
   record { text = answers.1.text; is_due = behind.due answers.1.text answers.1.is_due; part = answers.1.part },
 )
 answers_behind before mid after sink sink_after Memory behind later answers = answers
+answers_behind before mid after sink sink_after _ behind later answers = absurd answers
 
 -- names that were picked in a row
 pub picked_more : (a b c : List (List ℕ) → Type 0) (first second : List (List ℕ)) → Picked a b first → Picked b c second
@@ -77,7 +77,6 @@ pub picks_behind : (a b c : List (List ℕ) → Type 0) {inner outer : Duty} (na
     → Picked a b (name ∷ []) → Picks b c more status → Picks a c (reading inputs.Topology name ∷ more) status
 picks_behind a b c name more before mid after sink sink_after Done behind answers first picks = picked_more a b c
     (name ∷ []) (names_of more) first picks
-picks_behind a b c name more before mid after sink sink_after (Usage fault) behind answers first picks = absurd answers
 picks_behind a b c name more before mid after sink sink_after (ReadFault inputs.Topology) behind answers first picks =
     absurd (behind.once after.rest answers.1)
 picks_behind a b c name more before mid after sink sink_after (ReadFault inputs.Trace) behind answers first picks =
@@ -102,3 +101,4 @@ picks_behind a b c name more before mid after sink sink_after Memory behind answ
   parts = ap (λ (names : List (List ℕ)). name ∷ names) picks.parts;
   picked = picked_more a b c (name ∷ []) picks.front first picks.picked;
 }
+picks_behind a b c name more before mid after sink sink_after _ behind answers first picks = absurd answers

@@ -8,35 +8,23 @@ use Rattle.mon_call.specs.Topology.{IsUnfit, ReadsTopology}
 use Rattle.mon_call.specs.Trace.{ReadsTrace}
 use Rattle.mon_call.specs.declared.status.Input.TheVariants as inputs
 use Rattle.mon_call.specs.declared.status.Status.{Status}
-use Rattle.mon_call.specs.declared.status.Status.TheVariants.{Done, Usage, ReadFault, Topology, Trace, Certificate, Job, SinkFault, Memory}
+use Rattle.mon_call.specs.declared.status.Status.TheVariants.{Done, ReadFault, Topology, Trace, SinkFault, Memory}
 
 -- the last write of a text that is due
 pub finished : (duty : Duty) (call : Call) (text : List ℕ) (status : Status) → duty.due text
     → Finishes call.sink call.sink_after text status
     → Answers duty call status
 finished duty call text Done due finishes = record { text = text; is_due = due; grew = finishes }
-finished duty call text (Usage fault) due finishes = absurd finishes
-finished duty call text (ReadFault input) due finishes = absurd finishes
-finished duty call text (Topology fault) due finishes = absurd finishes
-finished duty call text (Trace fault) due finishes = absurd finishes
-finished duty call text (Certificate fault) due finishes = absurd finishes
-finished duty call text (Job fault) due finishes = absurd finishes
 finished duty call text SinkFault due finishes = (finishes.0, record { text = text; is_due = due; part = finishes.1 })
-finished duty call text Memory due finishes = absurd finishes
+finished duty call text _ due finishes = absurd finishes
 
 pub picks_finished : (before after : List (List ℕ) → Type 0) (reads : List Reading) (call : Call) (text : List ℕ)
     (status : Status)
     → Finishes call.sink call.sink_after text status → Picked before after (names_of reads)
     → Picks before after reads status
 picks_finished before after reads call text Done finishes picked = picked
-picks_finished before after reads call text (Usage fault) finishes picked = absurd finishes
-picks_finished before after reads call text (ReadFault input) finishes picked = absurd finishes
-picks_finished before after reads call text (Topology fault) finishes picked = absurd finishes
-picks_finished before after reads call text (Trace fault) finishes picked = absurd finishes
-picks_finished before after reads call text (Certificate fault) finishes picked = absurd finishes
-picks_finished before after reads call text (Job fault) finishes picked = absurd finishes
 picks_finished before after reads call text SinkFault finishes picked = picked
-picks_finished before after reads call text Memory finishes picked = absurd finishes
+picks_finished before after reads call text _ finishes picked = absurd finishes
 
 -- a topology that is not read or is refused
 pub unread : (contents : Option (List ℕ)) (duty : Duty) (call : Call) (status : Status)
@@ -44,36 +32,20 @@ pub unread : (contents : Option (List ℕ)) (duty : Duty) (call : Call) (status 
     → (IsLeft contents call.inputs.rest call.inputs_after.rest
     → duty.left inputs.Topology call.inputs.rest call.inputs_after.rest)
     → IsSilent call → ReadsTopology contents call.inputs call.inputs_after (Err status) → Answers duty call status
-unread contents duty call Done unfit left silent reads = absurd reads
-unread contents duty call (Usage fault) unfit left silent reads = absurd reads
 unread contents duty call (ReadFault inputs.Topology) unfit left silent reads = (reads.0, left reads.1, silent)
-unread contents duty call (ReadFault inputs.Trace) unfit left silent reads = absurd reads
-unread contents duty call (ReadFault inputs.Tree) unfit left silent reads = absurd reads
-unread contents duty call (ReadFault inputs.Job) unfit left silent reads = absurd reads
 unread contents duty call (Topology fault) unfit left silent reads = (unfit fault reads, silent)
-unread contents duty call (Trace fault) unfit left silent reads = absurd reads
-unread contents duty call (Certificate fault) unfit left silent reads = absurd reads
-unread contents duty call (Job fault) unfit left silent reads = absurd reads
-unread contents duty call SinkFault unfit left silent reads = absurd reads
 unread contents duty call Memory unfit left silent reads = silent
+unread contents duty call _ unfit left silent reads = absurd reads
 
 pub picks_unread : (before after : List (List ℕ) → Type 0) (contents : Option (List ℕ)) (name : List ℕ)
     (more : List Reading) (call : Call) (status : Status)
     → ReadsTopology contents call.inputs call.inputs_after (Err status) → Picked before after (name ∷ [])
     → Picks before after (reading inputs.Topology name ∷ more) status
-picks_unread before after contents name more call Done reads picked = absurd reads
-picks_unread before after contents name more call (Usage fault) reads picked = absurd reads
 picks_unread before after contents name more call (ReadFault inputs.Topology) reads picked = picked
-picks_unread before after contents name more call (ReadFault inputs.Trace) reads picked = absurd reads
-picks_unread before after contents name more call (ReadFault inputs.Tree) reads picked = absurd reads
-picks_unread before after contents name more call (ReadFault inputs.Job) reads picked = absurd reads
 picks_unread before after contents name more call (Topology fault) reads picked = picked
-picks_unread before after contents name more call (Trace fault) reads picked = absurd reads
-picks_unread before after contents name more call (Certificate fault) reads picked = absurd reads
-picks_unread before after contents name more call (Job fault) reads picked = absurd reads
-picks_unread before after contents name more call SinkFault reads picked = absurd reads
 picks_unread before after contents name more call Memory reads picked =
     record { front = name ∷ []; back = names_of more; parts = refl; picked = picked }
+picks_unread before after contents name more call _ reads picked = absurd reads
 
 -- a trace that is not read or is refused
 pub untraced : {V : Type 0} (P : V → Type 0) (refused : TraceFault → Type 0) (contents : Option (List ℕ)) (duty : Duty)
@@ -83,33 +55,17 @@ pub untraced : {V : Type 0} (P : V → Type 0) (refused : TraceFault → Type 0)
     → duty.left inputs.Trace call.inputs.rest call.inputs_after.rest)
     → IsSilent call → ReadsTrace P refused contents call.inputs call.inputs_after (Err status)
     → Answers duty call status
-untraced P refused contents duty call Done is left silent reads = absurd reads
-untraced P refused contents duty call (Usage fault) is left silent reads = absurd reads
-untraced P refused contents duty call (ReadFault inputs.Topology) is left silent reads = absurd reads
 untraced P refused contents duty call (ReadFault inputs.Trace) is left silent reads = (reads.0, left reads.1, silent)
-untraced P refused contents duty call (ReadFault inputs.Tree) is left silent reads = absurd reads
-untraced P refused contents duty call (ReadFault inputs.Job) is left silent reads = absurd reads
-untraced P refused contents duty call (Topology fault) is left silent reads = absurd reads
 untraced P refused contents duty call (Trace fault) is left silent reads = (is fault reads, silent)
-untraced P refused contents duty call (Certificate fault) is left silent reads = absurd reads
-untraced P refused contents duty call (Job fault) is left silent reads = absurd reads
-untraced P refused contents duty call SinkFault is left silent reads = absurd reads
 untraced P refused contents duty call Memory is left silent reads = silent
+untraced P refused contents duty call _ is left silent reads = absurd reads
 
 pub picks_untraced : {V : Type 0} (P : V → Type 0) (refused : TraceFault → Type 0)
     (before after : List (List ℕ) → Type 0) (contents : Option (List ℕ)) (name : List ℕ) (call : Call) (status : Status)
     → ReadsTrace P refused contents call.inputs call.inputs_after (Err status) → Picked before after (name ∷ [])
     → Picks before after (reading inputs.Trace name ∷ []) status
-picks_untraced P refused before after contents name call Done reads picked = absurd reads
-picks_untraced P refused before after contents name call (Usage fault) reads picked = absurd reads
-picks_untraced P refused before after contents name call (ReadFault inputs.Topology) reads picked = absurd reads
 picks_untraced P refused before after contents name call (ReadFault inputs.Trace) reads picked = picked
-picks_untraced P refused before after contents name call (ReadFault inputs.Tree) reads picked = absurd reads
-picks_untraced P refused before after contents name call (ReadFault inputs.Job) reads picked = absurd reads
-picks_untraced P refused before after contents name call (Topology fault) reads picked = absurd reads
 picks_untraced P refused before after contents name call (Trace fault) reads picked = picked
-picks_untraced P refused before after contents name call (Certificate fault) reads picked = absurd reads
-picks_untraced P refused before after contents name call (Job fault) reads picked = absurd reads
-picks_untraced P refused before after contents name call SinkFault reads picked = absurd reads
 picks_untraced P refused before after contents name call Memory reads picked =
     record { front = name ∷ []; back = []; parts = refl; picked = picked }
+picks_untraced P refused before after contents name call _ reads picked = absurd reads

@@ -58,10 +58,9 @@ pub record WrotePart (due : List ℕ → Type 0) (call : Call) : Type 0 where
   pub is_due : due text
   pub part : GrewByPart call.sink.written call.sink_after.written text
 
--- each status with its cause; want of memory is free
+-- each status of a command that starts nobody, with its cause; want of memory is free
 abbrev pub Answers : Duty → Call → Status → Type 0
 Answers duty call Done = Wrote duty.due call
-Answers duty call (Usage fault) = ⊥
 Answers duty call (ReadFault input) =
     Rose call.inputs.faults call.inputs_after.faults × duty.left input call.inputs.rest call.inputs_after.rest
     × IsSilent call
@@ -71,6 +70,7 @@ Answers duty call (Certificate fault) = duty.uncertified fault × IsSilent call
 Answers duty call (Job fault) = duty.misspelled fault × IsSilent call
 Answers duty call SinkFault = Rose call.sink.faults call.sink_after.faults × WrotePart duty.due call
 Answers duty call Memory = IsSilent call
+Answers duty call _ = ⊥
 
 -- No contents by name changed, and no count of faults fell.
 pub record Keeps (call : Call) : Type 0 where
@@ -81,14 +81,8 @@ pub record Keeps (call : Call) : Type 0 where
 -- how the last write ended: the whole text was appended, or a prefix of it where the count rose
 abbrev pub Finishes : SinkState → SinkState → List ℕ → Status → Type 0
 Finishes before after text Done = Grew before.written after.written text
-Finishes before after text (Usage fault) = ⊥
-Finishes before after text (ReadFault input) = ⊥
-Finishes before after text (Topology fault) = ⊥
-Finishes before after text (Trace fault) = ⊥
-Finishes before after text (Certificate fault) = ⊥
-Finishes before after text (Job fault) = ⊥
 Finishes before after text SinkFault = Rose before.faults after.faults × GrewByPart before.written after.written text
-Finishes before after text Memory = ⊥
+Finishes before after text _ = ⊥
 
 -- whether two inputs are one
 abbrev pub is_input : Input → Input → Bool
@@ -96,18 +90,7 @@ is_input inputs.Topology inputs.Topology = true
 is_input inputs.Trace inputs.Trace = true
 is_input inputs.Tree inputs.Tree = true
 is_input inputs.Job inputs.Job = true
-is_input inputs.Topology inputs.Trace = false
-is_input inputs.Topology inputs.Tree = false
-is_input inputs.Topology inputs.Job = false
-is_input inputs.Trace inputs.Topology = false
-is_input inputs.Trace inputs.Tree = false
-is_input inputs.Trace inputs.Job = false
-is_input inputs.Tree inputs.Topology = false
-is_input inputs.Tree inputs.Trace = false
-is_input inputs.Tree inputs.Job = false
-is_input inputs.Job inputs.Topology = false
-is_input inputs.Job inputs.Trace = false
-is_input inputs.Job inputs.Tree = false
+is_input _ _ = false
 
 -- the names of all inputs that are read, in their order
 abbrev pub names_of : List Reading → List (List ℕ)
@@ -125,18 +108,17 @@ pub record PickedSome (before after : List (List ℕ) → Type 0) (names : List 
   pub parts : names ≡ front ++ back
   pub picked : Picked before after front
 
--- Which inputs were picked, each once and in order: all where a text was due; all up to and with the one that could
--- not be read or is refused; none where the words are refused; and the first of them where memory ran out.
+-- Which inputs were picked, each once and in order: none where the words are refused; all up to and with the one that
+-- could not be read or is refused; the first of them where memory ran out; and else all.
 abbrev pub Picks : (List (List ℕ) → Type 0) → (List (List ℕ) → Type 0) → List Reading → Status → Type 0
-Picks before after reads Done = Picked before after (names_of reads)
 Picks before after reads (Usage fault) = PickedNothing before after
 Picks before after reads (ReadFault input) = Picked before after (names_to input reads)
 Picks before after reads (Topology fault) = Picked before after (names_to inputs.Topology reads)
 Picks before after reads (Trace fault) = Picked before after (names_to inputs.Trace reads)
 Picks before after reads (Certificate fault) = Picked before after (names_to inputs.Tree reads)
 Picks before after reads (Job fault) = Picked before after (names_to inputs.Job reads)
-Picks before after reads SinkFault = Picked before after (names_of reads)
 Picks before after reads Memory = PickedSome before after (names_of reads)
+Picks before after reads _ = Picked before after (names_of reads)
 
 -- what is left is a suffix of the contents, where both are told
 abbrev pub IsSuffix : Option (List ℕ) → Option (List ℕ) → Type 0

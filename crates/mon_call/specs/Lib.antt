@@ -1,4 +1,5 @@
 pub mod Call
+pub mod CrewCall
 pub mod Setting
 pub mod Told
 pub mod Topology

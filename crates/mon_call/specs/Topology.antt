@@ -6,7 +6,7 @@ use Rattle.topology.specs.Topology.{Topo, topology_of}
 use Rattle.topology.specs.declared.fault.TopologyFault.{TopologyFault}
 use Rattle.mon_call.specs.declared.status.Input.TheVariants as inputs
 use Rattle.mon_call.specs.declared.status.Status.{Status}
-use Rattle.mon_call.specs.declared.status.Status.TheVariants.{Done, Usage, ReadFault, Topology, Trace, Certificate, Job, SinkFault, Memory}
+use Rattle.mon_call.specs.declared.status.Status.TheVariants.{ReadFault, Topology, Memory}
 
 -- the topology that told contents spell
 abbrev pub SpellTopology : Option (List ℕ) → Topo → Type 0
@@ -19,16 +19,8 @@ IsUnfit contents fault = IfSome contents (λ bytes. topology_of bytes ≡ Err fa
 -- How reading a topology ended: with that of the contents, at their end, or with the status of the call.
 abbrev pub ReadsTopology : Option (List ℕ) → InputState → InputState → Result Topo Status → Type 0
 ReadsTopology contents before now (Ok topo) = SpellTopology contents topo × IsOver now.rest
-ReadsTopology contents before now (Err Done) = ⊥
-ReadsTopology contents before now (Err (Usage fault)) = ⊥
 ReadsTopology contents before now (Err (ReadFault inputs.Topology)) =
     Rose before.faults now.faults × IsLeft contents before.rest now.rest
-ReadsTopology contents before now (Err (ReadFault inputs.Trace)) = ⊥
-ReadsTopology contents before now (Err (ReadFault inputs.Tree)) = ⊥
-ReadsTopology contents before now (Err (ReadFault inputs.Job)) = ⊥
 ReadsTopology contents before now (Err (Topology fault)) = IsUnfit contents fault
-ReadsTopology contents before now (Err (Trace fault)) = ⊥
-ReadsTopology contents before now (Err (Certificate fault)) = ⊥
-ReadsTopology contents before now (Err (Job fault)) = ⊥
-ReadsTopology contents before now (Err SinkFault) = ⊥
 ReadsTopology contents before now (Err Memory) = ⊤
+ReadsTopology contents before now (Err _) = ⊥

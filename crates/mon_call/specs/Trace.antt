@@ -8,7 +8,7 @@ use Rattle.routed_trace.specs.declared.fault.TraceFault.{TraceFault}
 use Rattle.routed_trace.specs.declared.fault.TraceFault.TheVariants.{Pcap}
 use Rattle.mon_call.specs.declared.status.Input.TheVariants as inputs
 use Rattle.mon_call.specs.declared.status.Status.{Status}
-use Rattle.mon_call.specs.declared.status.Status.TheVariants.{Done, Usage, ReadFault, Topology, Trace, Certificate, Job, SinkFault, Memory}
+use Rattle.mon_call.specs.declared.status.Status.TheVariants.{ReadFault, Trace, Memory}
 
 -- the status at a stop of the reader
 abbrev pub status_at : PcapStop → Status
@@ -20,16 +20,8 @@ status_at stops.Memory = Memory
 abbrev pub ReadsTrace : {V : Type 0} → (V → Type 0) → (TraceFault → Type 0) → Option (List ℕ) → InputState → InputState
     → Result V Status → Type 0
 ReadsTrace P refused contents before now (Ok value) = P value
-ReadsTrace P refused contents before now (Err Done) = ⊥
-ReadsTrace P refused contents before now (Err (Usage fault)) = ⊥
-ReadsTrace P refused contents before now (Err (ReadFault inputs.Topology)) = ⊥
 ReadsTrace P refused contents before now (Err (ReadFault inputs.Trace)) =
     Rose before.faults now.faults × IsLeft contents before.rest now.rest
-ReadsTrace P refused contents before now (Err (ReadFault inputs.Tree)) = ⊥
-ReadsTrace P refused contents before now (Err (ReadFault inputs.Job)) = ⊥
-ReadsTrace P refused contents before now (Err (Topology fault)) = ⊥
 ReadsTrace P refused contents before now (Err (Trace fault)) = refused fault
-ReadsTrace P refused contents before now (Err (Certificate fault)) = ⊥
-ReadsTrace P refused contents before now (Err (Job fault)) = ⊥
-ReadsTrace P refused contents before now (Err SinkFault) = ⊥
 ReadsTrace P refused contents before now (Err Memory) = ⊤
+ReadsTrace P refused contents before now (Err _) = ⊥

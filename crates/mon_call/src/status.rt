@@ -3,6 +3,7 @@
 use certificate_text::CertFault;
 use job_format::JobFault;
 use mon_words::UsageFault;
+use replay_core::Bad;
 use routed_trace::TraceFault;
 use topology::TopologyFault;
 
@@ -19,6 +20,14 @@ pub enum Status {
     Topology(TopologyFault),
     /// The trace is refused, by its first fault in the order of the file.
     Trace(TraceFault),
+    /// No placement fits; the text of the outcome was written.
+    Infeasible,
+    /// The search has spent all of its nodes, without a placement; the text of the outcome was written.
+    SearchBudget { nodes: u32 },
+    /// This job of the phase had one bad attempt more than restarts are allowed, and these are its bad attempts.
+    RestartsSpent { phase: Phase, job: u32, bad: Bad },
+    /// The 4,096th stale event of the phase came: one of a ticket that was not out.
+    StaleLimit { phase: Phase },
     /// The certificate is refused, by its first fault.
     Certificate(CertFault),
     /// The job of a child is refused, by its first breach, which is never `Memory`.
@@ -40,4 +49,13 @@ pub enum Input {
     Tree,
     /// The job of a child.
     Job,
+}
+
+/// What children are started for.
+#[derive(Clone, Copy, Debug, PartialEq, Eq)]
+pub enum Phase {
+    /// To search for a placement.
+    Solve,
+    /// To sketch the shares of the switches.
+    Replay,
 }

@@ -14,7 +14,7 @@ use Rattle.routed_trace.proofs.Readings.{advanced_badly, begun_badly, stopped_at
 use Rattle.mon_call.specs.Trace.{ReadsTrace, status_at}
 use Rattle.mon_call.specs.declared.setting.Setting.{Setting}
 use Rattle.mon_call.specs.declared.status.Status.{Status}
-use Rattle.mon_call.specs.declared.status.Status.TheVariants.{Done, Usage, ReadFault, Topology, Trace, Certificate, Job, SinkFault, Memory}
+use Rattle.mon_call.specs.declared.status.Status.TheVariants.{Trace, Memory}
 use Rattle.mon_central.specs.Duty.{Contents, IsRefused}
 use Rattle.mon_central.specs.Sketched.{Counted, IsSketched}
 use Rattle.mon_central.specs.declared.epochs.Epochs.{Epochs}
@@ -65,23 +65,10 @@ pub counted_stop : (contents : Contents) (trace : List ℕ) (topology : Option T
     → IsDivided setting.division header members
     → Counted setting topology epochs header members member (Err status)
     → Reads contents trace topology setting before now status
-counted_stop contents trace topology setting epochs before now next header members member Done same so_far divided
-    counted = absurd counted
-counted_stop contents trace topology setting epochs before now next header members member (Usage fault) same so_far
-    divided counted = absurd counted
-counted_stop contents trace topology setting epochs before now next header members member (ReadFault input) same so_far
-    divided counted = absurd counted
-counted_stop contents trace topology setting epochs before now next header members member (Topology fault) same so_far
-    divided counted = absurd counted
 counted_stop contents trace topology setting epochs before now next header members member (Trace fault) same so_far
     divided counted =
     stopped_at setting.division topology epochs.counts (contents trace) now.rest next header members member fault same
     so_far divided counted
-counted_stop contents trace topology setting epochs before now next header members member (Certificate fault) same
-    so_far divided counted = absurd counted
-counted_stop contents trace topology setting epochs before now next header members member (Job fault) same so_far
-    divided counted = absurd counted
-counted_stop contents trace topology setting epochs before now next header members member SinkFault same so_far divided
-    counted = absurd counted
 counted_stop contents trace topology setting epochs before now next header members member Memory same so_far divided
     counted = tt
+counted_stop contents trace topology setting epochs before now next header members member _ same so_far divided counted = absurd counted

@@ -8,7 +8,7 @@ use Rattle.routed_trace.proofs.Fronts.{accepted_trace, one_trace_fault}
 use Rattle.mon_call.specs.Told.{HasBytes, IsTold, Shows}
 use Rattle.mon_call.specs.declared.setting.Setting.{Setting}
 use Rattle.mon_call.specs.declared.status.Status.{Status}
-use Rattle.mon_call.specs.declared.status.Status.TheVariants.{Done, Usage, ReadFault, Topology, Trace, Certificate, Job, SinkFault, Memory}
+use Rattle.mon_call.specs.declared.status.Status.TheVariants.{Done, Topology, Trace}
 use Rattle.mon_call.proofs.Topologies.{at_bytes, bad_or_good, good_or_bad, one_topology_fault}
 use Rattle.mon_central.specs.Duty.{Contents, HasToldTopology, HasToldUnfit, HasTopology, IsCentral, IsRefused, IsUnfitNamed, TellsCentral, central_duty}
 
@@ -59,16 +59,11 @@ when_accepted : (contents : Contents) (trace : List ℕ) (name : Option (List �
     → TellsCentral contents trace name setting Done
     → Shows (central_duty contents trace name setting) status → status ≡ Done
 when_accepted contents trace name setting Done told shows = refl
-when_accepted contents trace name setting (Usage fault) told shows = absurd shows
-when_accepted contents trace name setting (ReadFault input) told shows = absurd shows
 when_accepted contents trace name setting (Topology fault) told
     shows = absurd (no_unfit contents name fault told.0 shows)
 when_accepted contents trace name setting (Trace fault) told
     shows = absurd (no_fault contents trace setting fault told.1 shows.1)
-when_accepted contents trace name setting (Certificate fault) told shows = absurd shows
-when_accepted contents trace name setting (Job fault) told shows = absurd shows
-when_accepted contents trace name setting SinkFault told shows = absurd shows
-when_accepted contents trace name setting Memory told shows = absurd shows
+when_accepted contents trace name setting _ told shows = absurd shows
 
 -- where the topology is told with a fault
 when_unfit : (contents : Contents) (trace : List ℕ) (name : Option (List ℕ)) (setting : Setting) (fault : TopologyFault)
@@ -76,16 +71,11 @@ when_unfit : (contents : Contents) (trace : List ℕ) (name : Option (List ℕ))
     → Shows (central_duty contents trace name setting) status → status ≡ Topology fault
 when_unfit contents trace name setting fault Done told
     shows = absurd (no_topology contents name fault told (shows.1.topology, shows.1.read))
-when_unfit contents trace name setting fault (Usage other) told shows = absurd shows
-when_unfit contents trace name setting fault (ReadFault input) told shows = absurd shows
 when_unfit contents trace name setting fault (Topology other) told shows = ap Topology
     (one_unfit contents name fault other told shows)
 when_unfit contents trace name setting fault (Trace other) told
     shows = absurd (no_topology contents name fault told shows.0)
-when_unfit contents trace name setting fault (Certificate other) told shows = absurd shows
-when_unfit contents trace name setting fault (Job other) told shows = absurd shows
-when_unfit contents trace name setting fault SinkFault told shows = absurd shows
-when_unfit contents trace name setting fault Memory told shows = absurd shows
+when_unfit contents trace name setting fault _ told shows = absurd shows
 
 -- where the trace is told with a fault
 when_refused : (contents : Contents) (trace : List ℕ) (name : Option (List ℕ)) (setting : Setting) (fault : TraceFault)
@@ -93,16 +83,11 @@ when_refused : (contents : Contents) (trace : List ℕ) (name : Option (List ℕ
     → Shows (central_duty contents trace name setting) status → status ≡ Trace fault
 when_refused contents trace name setting fault Done told
     shows = absurd (no_text contents trace name setting fault shows.0 told.1 shows.1)
-when_refused contents trace name setting fault (Usage other) told shows = absurd shows
-when_refused contents trace name setting fault (ReadFault input) told shows = absurd shows
 when_refused contents trace name setting fault (Topology other) told
     shows = absurd (no_unfit contents name other told.0 shows)
 when_refused contents trace name setting fault (Trace other) told shows = ap Trace
     (same_fault contents trace setting fault other told.1 shows.1)
-when_refused contents trace name setting fault (Certificate other) told shows = absurd shows
-when_refused contents trace name setting fault (Job other) told shows = absurd shows
-when_refused contents trace name setting fault SinkFault told shows = absurd shows
-when_refused contents trace name setting fault Memory told shows = absurd shows
+when_refused contents trace name setting fault _ told shows = absurd shows
 
 pub central_told : (contents : Contents) (trace : List ℕ) (name : Option (List ℕ)) (setting : Setting) (wanted : Status)
     → TellsCentral contents trace name setting wanted
@@ -111,13 +96,8 @@ central_told contents trace name setting Done told = record {
   alone = λ status shows. when_accepted contents trace name
       setting status told shows;
 }
-central_told contents trace name setting (Usage fault) told = absurd told
-central_told contents trace name setting (ReadFault input) told = absurd told
 central_told contents trace name setting (Topology fault)
     told = record { alone = λ status shows. when_unfit contents trace name setting fault status told shows }
 central_told contents trace name setting (Trace fault)
     told = record { alone = λ status shows. when_refused contents trace name setting fault status told shows }
-central_told contents trace name setting (Certificate fault) told = absurd told
-central_told contents trace name setting (Job fault) told = absurd told
-central_told contents trace name setting SinkFault told = absurd told
-central_told contents trace name setting Memory told = absurd told
+central_told contents trace name setting _ told = absurd told

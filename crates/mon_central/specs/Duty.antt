@@ -15,7 +15,7 @@ use Rattle.mon_call.specs.declared.setting.Setting.{Setting}
 use Rattle.mon_call.specs.declared.status.Input.{Input}
 use Rattle.mon_call.specs.declared.status.Input.TheVariants as inputs
 use Rattle.mon_call.specs.declared.status.Status.{Status}
-use Rattle.mon_call.specs.declared.status.Status.TheVariants.{Done, Usage, ReadFault, Topology, Trace, Certificate, Job, SinkFault, Memory}
+use Rattle.mon_call.specs.declared.status.Status.TheVariants.{Done, Topology, Trace}
 use Rattle.mon_central.specs.Central.{central_text}
 
 -- the contents by name
@@ -116,12 +116,7 @@ HasToldUnfit contents (Some name) fault = HasBytes (contents name) (λ bytes. Is
 abbrev pub TellsCentral : Contents → List ℕ → Option (List ℕ) → Setting → Status → Type 0
 TellsCentral contents trace name setting Done =
     HasToldTopology contents name × HasBytes (contents trace) (HasDividedTrace setting.division)
-TellsCentral contents trace name setting (Usage fault) = ⊥
-TellsCentral contents trace name setting (ReadFault input) = ⊥
 TellsCentral contents trace name setting (Topology fault) = HasToldUnfit contents name fault
 TellsCentral contents trace name setting (Trace fault) =
     HasToldTopology contents name × HasBytes (contents trace) (λ bytes. HasTraceFault setting.division bytes fault)
-TellsCentral contents trace name setting (Certificate fault) = ⊥
-TellsCentral contents trace name setting (Job fault) = ⊥
-TellsCentral contents trace name setting SinkFault = ⊥
-TellsCentral contents trace name setting Memory = ⊥
+TellsCentral contents trace name setting _ = ⊥

@@ -18,7 +18,7 @@ use Rattle.routed_trace.specs.Counts.{Added, AreCounts}
 use Rattle.routed_trace.specs.Routed.{items_in, number_of_epochs, routed_of, weight_of_routed}
 use Rattle.topology.specs.Topology.{Topo}
 use Rattle.mon_call.specs.declared.status.Status.{Status}
-use Rattle.mon_call.specs.declared.status.Status.TheVariants.{Done, Usage, ReadFault, Topology, Trace, Certificate, Job, SinkFault, Memory}
+use Rattle.mon_call.specs.declared.status.Status.TheVariants.{Trace, Memory}
 use Rattle.mon_call.specs.Setting.{is_setting}
 use Rattle.mon_central.specs.Central.{central_view, levels_setting, kept_keys}
 use Rattle.mon_central.specs.Live.{AreLive, AreWeighed}
@@ -137,16 +137,10 @@ pub record IsNext (setting : Setting) (topology : Option Topo) (epochs : Epochs)
 abbrev pub Counted : Setting → Option Topo → Epochs → Header → List Record → Record → Result (Unit {0}) Status → Type 0
 Counted setting topology epochs header members member (Ok done) = Divides setting topology epochs header
     (members ++ member ∷ [])
-Counted setting topology epochs header members member (Err Done) = ⊥
-Counted setting topology epochs header members member (Err (Usage fault)) = ⊥
-Counted setting topology epochs header members member (Err (ReadFault input)) = ⊥
-Counted setting topology epochs header members member (Err (Topology fault)) = ⊥
 Counted setting topology epochs header members member (Err (Trace fault)) =
     Added setting.division topology epochs.counts header members member (Err fault)
-Counted setting topology epochs header members member (Err (Certificate fault)) = ⊥
-Counted setting topology epochs header members member (Err (Job fault)) = ⊥
-Counted setting topology epochs header members member (Err SinkFault) = ⊥
 Counted setting topology epochs header members member (Err Memory) = ⊤
+Counted setting topology epochs header members member (Err _) = ⊥
 
 -- the same of any records so far, and one that is this packet, with this key
 abbrev pub Counts : Setting → Option Topo → Epochs → Epochs → Packet → Option (List ℕ) → Result (Unit {0}) Status

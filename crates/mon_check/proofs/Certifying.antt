@@ -12,7 +12,7 @@ use Rattle.mon_call.specs.Topology.{SpellTopology}
 use Rattle.mon_call.specs.declared.status.Input.{Input}
 use Rattle.mon_call.specs.declared.status.Input.TheVariants as inputs
 use Rattle.mon_call.specs.declared.status.Status.{Status}
-use Rattle.mon_call.specs.declared.status.Status.TheVariants.{Done, Usage, ReadFault, Topology, Trace, Certificate, Job, SinkFault, Memory}
+use Rattle.mon_call.specs.declared.status.Status.TheVariants.{ReadFault, Certificate, Memory}
 use Rattle.mon_call.proofs.Behind.{IsBehind, suffix_left}
 use Rattle.mon_check.specs.Checked.{AreRead, HasCertFault, IsCertified, IsMisspelled, ReadsOnly}
 use Rattle.mon_check.specs.Duty.{Contents, ReadsCertificate, certify_duty, check_duty, check_left, tree_left, tree_reads}
@@ -104,14 +104,7 @@ pub uncertified : (contents : Contents) (tree : List ℕ) (problem : Problem) (c
     → IsSilent call
     → (call.inputs.contents ≡ contents) → ReadsCertificate (contents tree) call.inputs call.inputs_after (Err status)
     → Answers (certify_duty contents tree problem) call status
-uncertified contents tree problem call Done silent same reads = absurd reads
-uncertified contents tree problem call (Usage fault) silent same reads = absurd reads
-uncertified contents tree problem call (ReadFault inputs.Topology) silent same reads = absurd reads
-uncertified contents tree problem call (ReadFault inputs.Trace) silent same reads = absurd reads
 uncertified contents tree problem call (ReadFault inputs.Tree) silent same reads = (reads.0, reads.1, silent)
-uncertified contents tree problem call (ReadFault inputs.Job) silent same reads = absurd reads
-uncertified contents tree problem call (Topology fault) silent same reads = absurd reads
-uncertified contents tree problem call (Trace fault) silent same reads = absurd reads
 uncertified contents tree problem call (Certificate fault) silent same reads = (has_fault fault reads, silent)
   where
     has_fault : (f : CertFault) → IsMisspelled (contents tree) f → HasCertFault (contents tree) problem f
@@ -120,24 +113,15 @@ uncertified contents tree problem call (Certificate fault) silent same reads = (
     has_fault (cert.Line number) is = is
     has_fault (cert.Node node why) is = absurd is
     has_fault cert.Memory is = absurd is
-uncertified contents tree problem call (Job fault) silent same reads = absurd reads
-uncertified contents tree problem call SinkFault silent same reads = absurd reads
 uncertified contents tree problem call Memory silent same reads = silent
+uncertified contents tree problem call _ silent same reads = absurd reads
 
 pub picks_uncertified : (before after : List (List ℕ) → Type 0) (contents : Option (List ℕ)) (name : List ℕ)
     (call : Call) (status : Status)
     → ReadsCertificate contents call.inputs call.inputs_after (Err status) → Picked before after (name ∷ [])
     → Picks before after (tree_reads name) status
-picks_uncertified before after contents name call Done reads picked = absurd reads
-picks_uncertified before after contents name call (Usage fault) reads picked = absurd reads
-picks_uncertified before after contents name call (ReadFault inputs.Topology) reads picked = absurd reads
-picks_uncertified before after contents name call (ReadFault inputs.Trace) reads picked = absurd reads
 picks_uncertified before after contents name call (ReadFault inputs.Tree) reads picked = picked
-picks_uncertified before after contents name call (ReadFault inputs.Job) reads picked = absurd reads
-picks_uncertified before after contents name call (Topology fault) reads picked = absurd reads
-picks_uncertified before after contents name call (Trace fault) reads picked = absurd reads
 picks_uncertified before after contents name call (Certificate fault) reads picked = picked
-picks_uncertified before after contents name call (Job fault) reads picked = absurd reads
-picks_uncertified before after contents name call SinkFault reads picked = absurd reads
 picks_uncertified before after contents name call Memory reads picked =
     record { front = name ∷ []; back = []; parts = refl; picked = picked }
+picks_uncertified before after contents name call _ reads picked = absurd reads

@@ -16,7 +16,7 @@ use Rattle.mon_call.specs.Topology.{IsUnfit, SpellTopology}
 use Rattle.mon_call.specs.declared.status.Input.{Input}
 use Rattle.mon_call.specs.declared.status.Input.TheVariants as inputs
 use Rattle.mon_call.specs.declared.status.Status.{Status}
-use Rattle.mon_call.specs.declared.status.Status.TheVariants.{Done, Usage, ReadFault, Topology, Trace, Certificate, Job, SinkFault, Memory}
+use Rattle.mon_call.specs.declared.status.Status.TheVariants.{Done, ReadFault, Topology, Certificate, Memory}
 use Rattle.mon_check.specs.Checked.{AreRead, HasCertFault, IsCertified, IsChecked, IsMisspelled}
 
 -- the contents by name
@@ -74,19 +74,11 @@ check_duty contents topology tree = record {
 abbrev pub ReadsCertificate : Option (List ℕ) → InputState → InputState → Result Tree Status → Type 0
 ReadsCertificate contents before now (Ok certificate) = IsTrue (is_formed certificate)
     × AreRead contents (Ok certificate)
-ReadsCertificate contents before now (Err Done) = ⊥
-ReadsCertificate contents before now (Err (Usage fault)) = ⊥
-ReadsCertificate contents before now (Err (ReadFault inputs.Topology)) = ⊥
-ReadsCertificate contents before now (Err (ReadFault inputs.Trace)) = ⊥
 ReadsCertificate contents before now (Err (ReadFault inputs.Tree)) =
     Rose before.faults now.faults × IsLeft contents before.rest now.rest
-ReadsCertificate contents before now (Err (ReadFault inputs.Job)) = ⊥
-ReadsCertificate contents before now (Err (Topology fault)) = ⊥
-ReadsCertificate contents before now (Err (Trace fault)) = ⊥
 ReadsCertificate contents before now (Err (Certificate fault)) = IsMisspelled contents fault
-ReadsCertificate contents before now (Err (Job fault)) = ⊥
-ReadsCertificate contents before now (Err SinkFault) = ⊥
 ReadsCertificate contents before now (Err Memory) = ⊤
+ReadsCertificate contents before now (Err _) = ⊥
 
 -- the topology is told and has no fault, and so are bytes of another input told of which this holds
 abbrev pub HasBoth : Option (List ℕ) → Option (List ℕ) → (Problem → List ℕ → Type 0) → Type 0
@@ -112,13 +104,8 @@ IsNoCertificate cert.Memory problem bytes = ⊥
 -- what is read is told, and so is this status: that it has no fault, or its first one
 abbrev pub TellsCheck : Contents → List ℕ → List ℕ → Status → Type 0
 TellsCheck contents topology tree Done = HasBoth (contents topology) (contents tree) IsCertificate
-TellsCheck contents topology tree (Usage fault) = ⊥
-TellsCheck contents topology tree (ReadFault input) = ⊥
 TellsCheck contents topology tree (Topology fault) = HasBytes (contents topology)
     (λ bytes. topology_of bytes ≡ Err fault)
-TellsCheck contents topology tree (Trace fault) = ⊥
 TellsCheck contents topology tree (Certificate fault) = HasBoth (contents topology) (contents tree)
     (IsNoCertificate fault)
-TellsCheck contents topology tree (Job fault) = ⊥
-TellsCheck contents topology tree SinkFault = ⊥
-TellsCheck contents topology tree Memory = ⊥
+TellsCheck contents topology tree _ = ⊥

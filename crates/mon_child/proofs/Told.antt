@@ -6,7 +6,7 @@ use Rattle.job_format.specs.Read.{BreaksJob}
 use Rattle.job_format.specs.declared.fault.JobFault.{JobFault}
 use Rattle.mon_call.specs.Told.{IsTold, Shows}
 use Rattle.mon_call.specs.declared.status.Status.{Status}
-use Rattle.mon_call.specs.declared.status.Status.TheVariants.{Done, Usage, ReadFault, Topology, Trace, Certificate, Job, SinkFault, Memory}
+use Rattle.mon_call.specs.declared.status.Status.TheVariants.{Done, Job}
 use Rattle.mon_child.specs.Duty.{TellsChild, child_duty}
 
 -- what holds of told contents holds of their bytes
@@ -33,41 +33,23 @@ when_spelled : (contents : Option (List ℕ)) (status : Status) → TellsChild c
     → Shows (child_duty contents) status
     → status ≡ Done
 when_spelled contents Done told shows = refl
-when_spelled contents (Usage fault) told shows = absurd shows
-when_spelled contents (ReadFault input) told shows = absurd shows
-when_spelled contents (Topology fault) told shows = absurd shows
-when_spelled contents (Trace fault) told shows = absurd shows
-when_spelled contents (Certificate fault) told shows = absurd shows
 when_spelled contents (Job fault) told shows =
     absurd (no_breach told.0 told.2.0 fault told.2.1 (at_told contents told.0 (λ bytes. BreaksJob bytes fault) told.1
     shows))
-when_spelled contents SinkFault told shows = absurd shows
-when_spelled contents Memory told shows = absurd shows
+when_spelled contents _ told shows = absurd shows
 
 when_broken : (contents : Option (List ℕ)) (fault : JobFault) (status : Status) → TellsChild contents (Job fault)
     → Shows (child_duty contents) status → status ≡ Job fault
 when_broken contents fault Done told shows =
     absurd (no_breach told.0 shows.1.job fault (at_told contents told.0 (λ bytes. SpellsJob shows.1.job bytes) told.1
     shows.1.spelled) told.2)
-when_broken contents fault (Usage other) told shows = absurd shows
-when_broken contents fault (ReadFault input) told shows = absurd shows
-when_broken contents fault (Topology other) told shows = absurd shows
-when_broken contents fault (Trace other) told shows = absurd shows
-when_broken contents fault (Certificate other) told shows = absurd shows
 when_broken contents fault (Job other) told shows =
     ap Job (one_breach told.0 fault other told.2 (at_told contents told.0 (λ bytes. BreaksJob bytes other) told.1
     shows))
-when_broken contents fault SinkFault told shows = absurd shows
-when_broken contents fault Memory told shows = absurd shows
+when_broken contents fault _ told shows = absurd shows
 
 pub child_told : (contents : Option (List ℕ)) (wanted : Status) → TellsChild contents wanted
     → IsTold (child_duty contents) wanted
 child_told contents Done told = record { alone = λ status shows. when_spelled contents status told shows }
-child_told contents (Usage fault) told = absurd told
-child_told contents (ReadFault input) told = absurd told
-child_told contents (Topology fault) told = absurd told
-child_told contents (Trace fault) told = absurd told
-child_told contents (Certificate fault) told = absurd told
 child_told contents (Job fault) told = record { alone = λ status shows. when_broken contents fault status told shows }
-child_told contents SinkFault told = absurd told
-child_told contents Memory told = absurd told
+child_told contents _ told = absurd told

@@ -9,7 +9,7 @@ use Rattle.mon_call.specs.Told.{HasBytes}
 use Rattle.mon_call.specs.declared.status.Input.{Input}
 use Rattle.mon_call.specs.declared.status.Input.TheVariants as inputs
 use Rattle.mon_call.specs.declared.status.Status.{Status}
-use Rattle.mon_call.specs.declared.status.Status.TheVariants.{Done, Usage, ReadFault, Topology, Trace, Certificate, Job, SinkFault, Memory}
+use Rattle.mon_call.specs.declared.status.Status.TheVariants.{Done, Job}
 
 -- what is read: the job, from standard input
 abbrev pub child_reads : List Reading
@@ -37,11 +37,5 @@ child_duty contents = record {
 -- the job is told, and so is this status: that it is spelled, or its first breach
 abbrev pub TellsChild : Option (List ℕ) → Status → Type 0
 TellsChild contents Done = HasBytes contents (λ bytes. (job : AnyJob) × SpellsJob job bytes)
-TellsChild contents (Usage fault) = ⊥
-TellsChild contents (ReadFault input) = ⊥
-TellsChild contents (Topology fault) = ⊥
-TellsChild contents (Trace fault) = ⊥
-TellsChild contents (Certificate fault) = ⊥
 TellsChild contents (Job fault) = HasBytes contents (λ bytes. BreaksJob bytes fault)
-TellsChild contents SinkFault = ⊥
-TellsChild contents Memory = ⊥
+TellsChild contents _ = ⊥

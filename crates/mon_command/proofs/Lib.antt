@@ -1,3 +1,4 @@
+mod Asking
 mod Counting
 mod Digits
-mod Telling
+pub mod Telling

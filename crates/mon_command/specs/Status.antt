@@ -11,7 +11,10 @@ use Rattle.job_format.specs.declared.fault.JobFault.TheVariants as job
 use Rattle.bound_certificate.specs.declared.verdict.TreeWhy.TheVariants as why
 use Rattle.mon_call.specs.declared.status.Input.TheVariants as inputs
 use Rattle.mon_call.specs.declared.status.Status.{Status}
-use Rattle.mon_call.specs.declared.status.Status.TheVariants.{Done, Usage, ReadFault, Topology, Trace, Certificate, Job, SinkFault, Memory}
+use Rattle.mon_call.specs.declared.status.Phase.{Phase}
+use Rattle.mon_call.specs.declared.status.Phase.TheVariants as phases
+use Rattle.mon_call.specs.declared.status.Status.TheVariants.{Done, Usage, ReadFault, Topology, Trace, Infeasible, SearchBudget, RestartsSpent, StaleLimit, Certificate, Job, SinkFault, Memory}
+use Rattle.replay_core.specs.declared.bad.Bad.{Bad}
 use Rattle.routed_trace.specs.declared.fault.TraceFault.{TraceFault}
 use Rattle.routed_trace.specs.declared.fault.TraceFault.TheVariants.{Pcap, Epochs, Weight}
 use Rattle.mon_words.specs.Options.{name_of}
@@ -31,6 +34,10 @@ number_of (Usage fault) = 2
 number_of (ReadFault input) = 3
 number_of (Topology fault) = 4
 number_of (Trace fault) = 5
+number_of Infeasible = 6
+number_of (SearchBudget nodes) = 7
+number_of (RestartsSpent phase job bad) = 8
+number_of (StaleLimit phase) = 9
 number_of SinkFault = 10
 number_of (Certificate fault) = 11
 number_of (Job fault) = 12
@@ -148,6 +155,18 @@ job_line job.Shape = codes "univmon: job: shape"
 job_line job.Extra = codes "univmon: job: extra"
 job_line job.Memory = codes "univmon: out of memory"
 
+-- what children are started for
+abbrev pub phase_word : Phase → List ℕ
+phase_word phases.Solve = codes "solve"
+phase_word phases.Replay = codes "replay"
+
+-- the bad attempts of a job that were too many
+unfoldable pub spent_line : Phase → ℕ → Bad → List ℕ
+spent_line phase job bad =
+    codes "univmon: restarts spent: " ++ (phase_word phase ++ (codes " job " ++ (decimal job
+    ++ (codes ": start " ++ (decimal bad.start ++ (codes " feed " ++ (decimal bad.feed
+    ++ (codes " died " ++ (decimal bad.died ++ (codes " reply " ++ decimal bad.reply))))))))))
+
 -- the line that is printed on standard error, empty where the work was done
 abbrev pub line_of : Status → List ℕ
 line_of Done = []
@@ -160,5 +179,9 @@ line_of (Topology fault) = topology_line fault
 line_of (Trace fault) = trace_line fault
 line_of (Certificate fault) = certificate_line fault
 line_of (Job fault) = job_line fault
+line_of Infeasible = codes "univmon: infeasible"
+line_of (SearchBudget nodes) = codes "univmon: search budget " ++ (decimal nodes ++ codes " spent")
+line_of (RestartsSpent phase job bad) = spent_line phase job bad
+line_of (StaleLimit phase) = codes "univmon: too many stale events: " ++ phase_word phase
 line_of SinkFault = codes "univmon: cannot write"
 line_of Memory = codes "univmon: out of memory"

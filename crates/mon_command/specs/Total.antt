@@ -12,7 +12,7 @@ use Rattle.mon_call.specs.Told.{HasBytes}
 use Rattle.mon_call.specs.declared.status.Input.{Input}
 use Rattle.mon_call.specs.declared.status.Input.TheVariants as inputs
 use Rattle.mon_call.specs.declared.status.Status.{Status}
-use Rattle.mon_call.specs.declared.status.Status.TheVariants.{Done, Usage, ReadFault, Topology, Trace, Certificate, Job, SinkFault, Memory}
+use Rattle.mon_call.specs.declared.status.Status.TheVariants.{Done, Trace}
 use Rattle.mon_command.specs.declared.total.Counts.{Counts}
 
 -- the lines of a number of packets, of which so many have a key
@@ -67,14 +67,6 @@ total_duty contents trace = record {
 -- the trace is told, and so is this status: that it has no fault, or the fault of its format
 abbrev pub TellsTotal : Option (List ℕ) → Status → Type 0
 TellsTotal contents Done = HasBytes contents HasTrace
-TellsTotal contents (Usage fault) = ⊥
-TellsTotal contents (ReadFault input) = ⊥
-TellsTotal contents (Topology fault) = ⊥
 TellsTotal contents (Trace (Pcap fault)) = HasBytes contents
     (λ bytes. (members : List Record) × Broken bytes members fault)
-TellsTotal contents (Trace (Epochs number index)) = ⊥
-TellsTotal contents (Trace (Weight number)) = ⊥
-TellsTotal contents (Certificate fault) = ⊥
-TellsTotal contents (Job fault) = ⊥
-TellsTotal contents SinkFault = ⊥
-TellsTotal contents Memory = ⊥
+TellsTotal contents _ = ⊥

@@ -1,9 +1,9 @@
 //! The commands that start nobody.
-ghost use Rattle.std.specs.Prelude.{◌≡◌, Ok, map, string_bytes};
-ghost use Rattle.mon_words.specs.Values.{IsInRange};
+ghost use Rattle.std.specs.Prelude.{◌≡◌, Ok, false, map, string_bytes};
+ghost use Rattle.mon_words.specs.Values.{IsInRange, starts_children};
 ghost use Rattle.mon_call.specs.Call.{Keeps, UnlessMemory, call_of};
-ghost use Rattle.mon_command.specs.Asked.{Asked, asked_in, asked_of};
-ghost use Rattle.mon_command.specs.Outcome.{Answered, IsCalm, Outcome, Tells};
+ghost use Rattle.mon_command.specs.Asked.{AloneCommand, Asked, asked_in, asked_of};
+ghost use Rattle.mon_command.specs.Outcome.{IsCalm, Outcome, Tells};
 ghost use Rattle.certificate_text.specs.declared.fault.CertFault.{CertFault};
 ghost use Rattle.routed_trace.specs.declared.fault.TraceFault.{TraceFault};
 ghost use Rattle.topology.specs.declared.fault.TopologyFault.{TopologyFault};
@@ -27,41 +27,41 @@ pub fn run_alone<I: Inputs, K: Sink>(
     sink: &mut K,
 ) -> Status
     ensures outcome { let call = call_of (I.state inputs.old) (I.state inputs.new) (K.state sink.old) (K.state sink.new) in
-        Outcome (I.picks inputs.old) (I.picks inputs.new) (asked_of (map string_bytes words.now)) call result }
+        Outcome (I.picks inputs.old) (I.picks inputs.new) (asked_of false (map string_bytes words.now)) call result }
     ensures keeps { Keeps (call_of (I.state inputs.old) (I.state inputs.new) (K.state sink.old) (K.state sink.new)) }
 
     // Without a fault the work is done, unless memory runs out.
     ensures complete { (asked : Asked) →
         let call = call_of (I.state inputs.old) (I.state inputs.new) (K.state sink.old) (K.state sink.new) in
-        IsCalm (asked_of (map string_bytes words.now)) asked call → Tells call asked Status.Done →
+        IsCalm (asked_of false (map string_bytes words.now)) asked call → Tells call asked Status.Done →
         UnlessMemory Status.Done result }
 
     // A fault of the topology is told, unless memory runs out.
     ensures unfit { (asked : Asked) (fault : TopologyFault) →
         let call = call_of (I.state inputs.old) (I.state inputs.new) (K.state sink.old) (K.state sink.new) in
-        IsCalm (asked_of (map string_bytes words.now)) asked call → Tells call asked (Status.Topology fault) →
+        IsCalm (asked_of false (map string_bytes words.now)) asked call → Tells call asked (Status.Topology fault) →
         UnlessMemory (Status.Topology fault) result }
 
     // A fault of the trace is told, unless memory runs out.
     ensures refused { (asked : Asked) (fault : TraceFault) →
         let call = call_of (I.state inputs.old) (I.state inputs.new) (K.state sink.old) (K.state sink.new) in
-        IsCalm (asked_of (map string_bytes words.now)) asked call → Tells call asked (Status.Trace fault) →
+        IsCalm (asked_of false (map string_bytes words.now)) asked call → Tells call asked (Status.Trace fault) →
         UnlessMemory (Status.Trace fault) result }
 
     // A fault of the certificate is told, unless memory runs out.
     ensures uncertified { (asked : Asked) (fault : CertFault) →
         let call = call_of (I.state inputs.old) (I.state inputs.new) (K.state sink.old) (K.state sink.new) in
-        IsCalm (asked_of (map string_bytes words.now)) asked call → Tells call asked (Status.Certificate fault) →
+        IsCalm (asked_of false (map string_bytes words.now)) asked call → Tells call asked (Status.Certificate fault) →
         UnlessMemory (Status.Certificate fault) result }
 
     // A breach of the job is told, unless memory runs out.
     ensures misspelled { (asked : Asked) (fault : JobFault) →
         let call = call_of (I.state inputs.old) (I.state inputs.new) (K.state sink.old) (K.state sink.new) in
-        IsCalm (asked_of (map string_bytes words.now)) asked call → Tells call asked (Status.Job fault) →
+        IsCalm (asked_of false (map string_bytes words.now)) asked call → Tells call asked (Status.Job fault) →
         UnlessMemory (Status.Job fault) result }
 
     // A reply is written behind the end of the job's input.
-    ensures over { asked_of (map string_bytes words.now) ≡ Ok Asked.Child → result ≡ Status.Done
+    ensures over { asked_of false (map string_bytes words.now) ≡ Ok (Asked.Alone AloneCommand.Child) → result ≡ Status.Done
         → IsOver (I.state inputs.new).rest }
 {
     answer(alloc, words, inputs, sink)
@@ -75,25 +75,31 @@ fn answer<I: Inputs, K: Sink>(
     sink: &mut K,
 ) -> Status
     ensures outcome { let call = call_of (I.state inputs.old) (I.state inputs.new) (K.state sink.old) (K.state sink.new) in
-        Outcome (I.picks inputs.old) (I.picks inputs.new) (asked_of (map string_bytes words.now)) call result }
+        Outcome (I.picks inputs.old) (I.picks inputs.new) (asked_of false (map string_bytes words.now)) call result }
     ensures keeps { Keeps (call_of (I.state inputs.old) (I.state inputs.new) (K.state sink.old) (K.state sink.new)) }
-    ensures over { asked_of (map string_bytes words.now) ≡ Ok Asked.Child → result ≡ Status.Done
+    ensures over { asked_of false (map string_bytes words.now) ≡ Ok (Asked.Alone AloneCommand.Child) → result ≡ Status.Done
         → IsOver (I.state inputs.new).rest }
 {
-    match read_words(alloc, words) {
+    match read_words(alloc, words, false) {
         Ok(read) => perform(alloc, &read, inputs, sink),
         Err(WordsFault::Usage(fault)) => Status::Usage(fault),
         Err(WordsFault::Memory) => Status::Memory,
     }
 }
 
-// Each command by itself.
-fn perform<I: Inputs, K: Sink>(alloc: Global, words: &Words, inputs: &mut I, sink: &mut K) -> Status
-    requires { IsInRange words.now }
-    ensures answered { let call = call_of (I.state inputs.old) (I.state inputs.new) (K.state sink.old) (K.state sink.new) in
-        Answered (I.picks inputs.old) (I.picks inputs.new) (asked_in words.now) call result }
+/// Each command by itself.
+pub(crate) fn perform<I: Inputs, K: Sink>(
+    alloc: Global,
+    words: &Words,
+    inputs: &mut I,
+    sink: &mut K,
+) -> Status
+    requires range { IsInRange words.now }
+    requires alone { starts_children words.now.command ≡ false }
+    ensures outcome { let call = call_of (I.state inputs.old) (I.state inputs.new) (K.state sink.old) (K.state sink.new) in
+        Outcome (I.picks inputs.old) (I.picks inputs.new) (Ok (asked_in words.now)) call result }
     ensures keeps { Keeps (call_of (I.state inputs.old) (I.state inputs.new) (K.state sink.old) (K.state sink.new)) }
-    ensures over { asked_in words.now ≡ Asked.Child → result ≡ Status.Done → IsOver (I.state inputs.new).rest }
+    ensures over { asked_in words.now ≡ Asked.Alone AloneCommand.Child → result ≡ Status.Done → IsOver (I.state inputs.new).rest }
 {
     match words.command {
         Command::Total => total(alloc, words.names[0].as_str(), inputs, sink),
@@ -103,6 +109,7 @@ fn perform<I: Inputs, K: Sink>(alloc: Global, words: &Words, inputs: &mut I, sin
             check_tree(alloc, topology, tree, inputs, sink)
         }
         Command::Child => child(alloc, inputs, sink),
+        Command::Place => unreachable!(),
     }
 }
 
@@ -110,8 +117,8 @@ fn perform<I: Inputs, K: Sink>(alloc: Global, words: &Words, inputs: &mut I, sin
 fn central<I: Inputs, K: Sink>(alloc: Global, words: &Words, inputs: &mut I, sink: &mut K) -> Status
     requires range { IsInRange words.now }
     requires command { words.now.command ≡ Command.Central }
-    ensures answered { let call = call_of (I.state inputs.old) (I.state inputs.new) (K.state sink.old) (K.state sink.new) in
-        Answered (I.picks inputs.old) (I.picks inputs.new) (asked_in words.now) call result }
+    ensures outcome { let call = call_of (I.state inputs.old) (I.state inputs.new) (K.state sink.old) (K.state sink.new) in
+        Outcome (I.picks inputs.old) (I.picks inputs.new) (Ok (asked_in words.now)) call result }
     ensures keeps { Keeps (call_of (I.state inputs.old) (I.state inputs.new) (K.state sink.old) (K.state sink.new)) }
 {
     let trace = words.names[0].as_str();

@@ -1,14 +1,15 @@
 //! The number and the line of a status.
 ghost use Rattle.std.specs.Prelude.{◌≡◌, IfOk, string_bytes};
-ghost use Rattle.mon_command.specs.Status.{number_of, line_of, job_line, pcap_line, trace_line, usage_line};
+ghost use Rattle.mon_command.specs.Status.{number_of, line_of, job_line, pcap_line, phase_word, spent_line, trace_line, usage_line};
 
 use crate::certificate_line::certificate_text;
 use crate::topology_line::topology_text;
 use job_format::JobFault;
-use mon_call::{Input, Status};
+use mon_call::{Input, Phase, Status};
 use mon_io::Memory;
 use mon_words::UsageFault;
 use pcap_reader::PcapFault;
+use replay_core::Bad;
 use routed_trace::TraceFault;
 use std::alloc::{AllocError, Global};
 
@@ -22,6 +23,10 @@ pub fn status_number(status: &Status) -> u8
         Status::ReadFault(_) => 3,
         Status::Topology(_) => 4,
         Status::Trace(_) => 5,
+        Status::Infeasible => 6,
+        Status::SearchBudget { .. } => 7,
+        Status::RestartsSpent { .. } => 8,
+        Status::StaleLimit { .. } => 9,
         Status::SinkFault => 10,
         Status::Certificate(_) => 11,
         Status::Job(_) => 12,
@@ -44,6 +49,15 @@ pub fn status_line(alloc: Global, status: &Status) -> Result<String, Memory>
         Status::ReadFault(Input::Job) => String::from_str(alloc, "univmon: cannot read job"),
         Status::Topology(fault) => topology_text(alloc, *fault),
         Status::Trace(fault) => trace_text(alloc, *fault),
+        Status::Infeasible => String::from_str(alloc, "univmon: infeasible"),
+        Status::SearchBudget { nodes } => {
+            format!(in alloc; "univmon: search budget {nodes} spent")
+        }
+        Status::RestartsSpent { phase, job, bad } => spent_text(alloc, *phase, *job, *bad),
+        Status::StaleLimit { phase } => {
+            let phase = phase_word(*phase);
+            format!(in alloc; "univmon: too many stale events: {phase}")
+        }
         Status::Certificate(fault) => certificate_text(alloc, *fault),
         Status::Job(fault) => job_text(alloc, *fault),
         Status::SinkFault => String::from_str(alloc, "univmon: cannot write"),
@@ -67,6 +81,26 @@ fn usage_text(alloc: Global, fault: UsageFault) -> Result<String, AllocError>
             format!(in alloc; "univmon: usage: value of {name}")
         }
     }
+}
+
+fn phase_word(phase: Phase) -> &'static str
+    ensures { result.now ≡ phase_word phase }
+{
+    match phase {
+        Phase::Solve => "solve",
+        Phase::Replay => "replay",
+    }
+}
+
+#[tactic(auto, unfolding(crate::specs::Status::spent_line))]
+fn spent_text(alloc: Global, phase: Phase, job: u32, bad: Bad) -> Result<String, AllocError>
+    ensures { IfOk result (λ line. string_bytes line ≡ spent_line phase job bad) }
+{
+    let phase = phase_word(phase);
+    let (start, feed, died, reply) = (bad.start, bad.feed, bad.died, bad.reply);
+    format!(in alloc;
+        "univmon: restarts spent: {phase} job {job}: start {start} feed {feed} died {died} reply {reply}"
+    )
 }
 
 fn trace_text(alloc: Global, fault: TraceFault) -> Result<String, AllocError>

@@ -1,9 +1,10 @@
 -- What a parse does not give.
-use Rattle.std.proofs.Common.{◌≡◌, ◌<◌, ℕ, zero, suc, List, [], ◌∷◌, length, drop, map, true, false, true≢false, refl, sym, ap, subst, ◌∙◌, arith, inl, inr, codes, Option, Some, None}
+use Rattle.std.proofs.Common.{◌≡◌, ◌<◌, ℕ, zero, suc, List, [], ◌∷◌, length, map, Bool, true, false, not, ◌&&◌, ◌||◌, true≢false, refl, sym, ap, subst, ◌∙◌, arith, inl, inr, codes, Option, Some, None}
 use Rattle.std.specs.Borrow.{Bor}
 use Rattle.std.specs.Prelude.{bytes_eq, option_map, slice_get}
-use Rattle.std.specs.List.{AllByRecursion, slice_index_or}
+use Rattle.std.specs.List.{list_all, slice_index_or}
 use Rattle.std.proofs.lemmas.Bool.{cases_lt}
+use Rattle.std.proofs.lemmas.List.Sums.{AllPass-from_list_all}
 use Rattle.std.proofs.lemmas.Slice.Eq.{bytes_eq-Decides}
 use Rattle.clap.specs.Built.{IsAuto, IsParsedFrom}
 use Rattle.clap.specs.Facts.{EntryPasses}
@@ -14,15 +15,16 @@ use Rattle.clap.specs.declared.parser.matches.ArgMatches.{ArgMatches}
 use Rattle.clap.specs.declared.parser.matches.MatchedArg.{MatchedArg}
 use Rattle.clap.proofs.CallerLemmas.{entry_by_id}
 use Rattle.clap.proofs.WalkLemmas.{first_value-rows}
-use Rattle.mon_words.specs.Apps.{app_for, check_app, child_app, name_ids, name_rule, total_app}
+use Rattle.mon_words.specs.Apps.{app_for}
 use Rattle.mon_words.specs.Needs.{IsFresh, IsStrict}
-use Rattle.mon_words.specs.Options.{id_of}
-use Rattle.mon_words.specs.Values.{IsBare, takes_options}
+use Rattle.mon_words.specs.Options.{id_of, options}
+use Rattle.mon_words.specs.Values.{IsBare, takes_option, takes_sketch_options}
 use Rattle.mon_words.specs.declared.command.Command as words
-use Rattle.mon_words.specs.declared.command.Command.TheVariants.{Total, Central, Check, Child}
+use Rattle.mon_words.specs.declared.command.Command.TheVariants.{Total, Central, Check, Child, Place}
 use Rattle.mon_words.specs.declared.opt.Opt.{Opt}
 use Rattle.mon_words.proofs.Arguments.{differs}
-use Rattle.mon_words.specs.declared.opt.Opt.TheVariants.{Seed, Levels, Rows, Width, Heap, Weight, Epoch, Heavy}
+use Rattle.mon_words.proofs.Refusals.{each_app}
+use Rattle.mon_words.specs.declared.opt.Opt.TheVariants.{Seed, Levels, Rows, Width, Heap, Weight, Epoch, Heavy, Nodes, Window, Restarts}
 
 no_first : (xs : List (Bor (List ℕ))) → ((y : Bor (List ℕ)) → 0 < length xs → ⊥)
     → option_map (λ s. s.now) (slice_get xs 0) ≡ None
@@ -68,71 +70,84 @@ no_value app m id strict p fresh named help version = go (matched_of (found_of m
         ] in
         rw e (no_first x.vals.items none)
 
--- an id is none of these
-abbrev Others : List ℕ → List (List ℕ) → Type 0
-Others id names = AllByRecursion (λ name. bytes_eq name id ≡ false) names
+-- no rule has this id
+abbrev is_free : List ℕ → List Rule → Bool
+is_free id rules = list_all (λ rule. not (bytes_eq rule.id id)) rules
 
--- no argument of these names alone has another id
-fresh_by_names : (args : List Arg) (names : List (List ℕ)) (id : List ℕ) → map rule_of args ≡ map name_rule names
-    → Others id names → IsFresh id args
-fresh_by_names [] names id is others k d lt = absurd (omega arith)
-fresh_by_names (arg ∷ args) [] id is others k d lt = absurd (cc)
-fresh_by_names (arg ∷ args) (name ∷ names) id is others zero d lt =
-    ap (λ (rules : List Rule). bytes_eq (slice_index_or rules 0 (name_rule name)).id id) is ∙ others.0
-fresh_by_names (arg ∷ args) (name ∷ names) id is others (suc k) d lt =
-    fresh_by_names args names id (ap (λ (rules : List Rule). drop 1 rules) is) others.1 k d (omega arith)
+both : (a b : Bool) → (not a && b) ≡ true → (a ≡ false) × (b ≡ true)
+both true b e = absurd (true≢false (sym e))
+both false b e = (refl, e)
 
--- the arguments of a command without options are its names alone
-fresh_in : (command : words.Command) (app : Command) (id : List ℕ) → takes_options command ≡ false
-    → app_of app ≡ app_for command → Others id (name_ids command) → IsFresh id (args_of app)
-unfolding total_app check_app child_app
-fresh_in Total app id bare is others =
-    fresh_by_names (args_of app) (name_ids Total) id (ap (λ (a : App). a.top.rules) is) others
-fresh_in Central app id bare is others = absurd (true≢false bare)
-fresh_in Check app id bare is others =
-    fresh_by_names (args_of app) (name_ids Check) id (ap (λ (a : App). a.top.rules) is) others
-fresh_in Child app id bare is others =
-    fresh_by_names (args_of app) (name_ids Child) id (ap (λ (a : App). a.top.rules) is) others
+-- no argument with these rules has an id that no rule has
+fresh_by_rules : (args : List Arg) (id : List ℕ) → is_free id (map rule_of args) ≡ true → IsFresh id args
+fresh_by_rules [] id free k d lt = absurd (omega arith)
+fresh_by_rules (arg ∷ args) id free zero d lt = (both _ _ free).0
+fresh_by_rules (arg ∷ args) id free (suc k) d lt = fresh_by_rules args id (both _ _ free).1 k d (omega arith)
 
--- an id of an option is that of no name, and none of clap's own
-record IsApart (id : List ℕ) : Type 0 where
-  trace : bytes_eq (codes "TRACE") id ≡ false
-  topology : bytes_eq (codes "TOPOLOGY") id ≡ false
-  tree : bytes_eq (codes "TREE") id ≡ false
-  some : bytes_eq id [] ≡ false
-  help : bytes_eq id (codes "help") ≡ false
-  version : bytes_eq id (codes "version") ≡ false
+-- neither a rule nor a flag of clap's own has this id
+abbrev is_absent : List ℕ → List Rule → Bool
+is_absent id rules =
+    not (bytes_eq id []) && (not (bytes_eq id (codes "help")) && (not (bytes_eq id (codes "version")) && is_free id rules))
 
-are_apart : (option : Opt) → IsApart (id_of option)
-are_apart Seed = record { trace = refl; topology = refl; tree = refl; some = refl; help = refl; version = refl }
-are_apart Levels = record { trace = refl; topology = refl; tree = refl; some = refl; help = refl; version = refl }
-are_apart Rows = record { trace = refl; topology = refl; tree = refl; some = refl; help = refl; version = refl }
-are_apart Width = record { trace = refl; topology = refl; tree = refl; some = refl; help = refl; version = refl }
-are_apart Heap = record { trace = refl; topology = refl; tree = refl; some = refl; help = refl; version = refl }
-are_apart Weight = record { trace = refl; topology = refl; tree = refl; some = refl; help = refl; version = refl }
-are_apart Epoch = record { trace = refl; topology = refl; tree = refl; some = refl; help = refl; version = refl }
-are_apart Heavy = record { trace = refl; topology = refl; tree = refl; some = refl; help = refl; version = refl }
-
-other_names : (command : words.Command) (id : List ℕ) → IsApart id → Others id (name_ids command)
-other_names Total id apart = (apart.trace, tt)
-other_names Central id apart = (apart.trace, tt)
-other_names Check id apart = (apart.topology, (apart.tree, tt))
-other_names Child id apart = tt
-
-no_text : (command : words.Command) (app : Command) (m : ArgMatches) (id : List ℕ) → takes_options command ≡ false
-    → IsStrict app → IsParsedFrom app m → app_of app ≡ app_for command
-    → IsApart id → first_of id (rows_of (found_of m)) ≡ None
-no_text command app m id bare strict p is apart =
+no_text : (app : Command) (m : ArgMatches) (id : List ℕ) → IsStrict app → IsParsedFrom app m
+    → is_absent id (app_of app).top.rules ≡ true → first_of id (rows_of (found_of m)) ≡ None
+no_text app m id strict p absent =
+    let some = both _ _ absent in
+    let help = both _ _ some.1 in
+    let version = both _ _ help.1 in
     sym (first_value-rows (found_of m) id)
-    ∙ no_value app m id strict p (fresh_in command app id bare is (other_names command id apart))
-    (differs id [] apart.some) (differs id (codes "help") apart.help) (differs id (codes "version") apart.version)
+    ∙ no_value app m id strict p (fresh_by_rules (args_of app) id version.1)
+    (differs id [] some.0) (differs id (codes "help") help.0) (differs id (codes "version") version.0)
 
--- the words of a command without options give none
-pub bare_words : (command : words.Command) (app : Command) (m : ArgMatches) → takes_options command ≡ false
-    → IsStrict app → IsParsedFrom app m → app_of app ≡ app_for command → IsBare (rows_of (found_of m))
-bare_words command app m bare strict p is = record {
-  no_topology =
-      no_text command app m (codes "topology") bare strict p is
-      (record { trace = refl; topology = refl; tree = refl; some = refl; help = refl; version = refl });
-  no_option = λ option. no_text command app m (id_of option) bare strict p is (are_apart option);
-}
+-- what passes throughout the table passes
+of_each : (p : Opt → Bool) (option : Opt) → list_all p options ≡ true → p option ≡ true
+of_each p Seed each = AllPass-from_list_all p options each 0 Seed (omega arith)
+of_each p Levels each = AllPass-from_list_all p options each 1 Seed (omega arith)
+of_each p Rows each = AllPass-from_list_all p options each 2 Seed (omega arith)
+of_each p Width each = AllPass-from_list_all p options each 3 Seed (omega arith)
+of_each p Heap each = AllPass-from_list_all p options each 4 Seed (omega arith)
+of_each p Weight each = AllPass-from_list_all p options each 5 Seed (omega arith)
+of_each p Epoch each = AllPass-from_list_all p options each 6 Seed (omega arith)
+of_each p Heavy each = AllPass-from_list_all p options each 7 Seed (omega arith)
+of_each p Nodes each = AllPass-from_list_all p options each 8 Seed (omega arith)
+of_each p Window each = AllPass-from_list_all p options each 9 Seed (omega arith)
+of_each p Restarts each = AllPass-from_list_all p options each 10 Seed (omega arith)
+
+-- a command takes an option, or no rule of it has the option's id
+abbrev takes_or_lacks : words.Command → Opt → Bool
+takes_or_lacks command option = takes_option command option || is_absent (id_of option) (app_for command).top.rules
+
+takes_or_lacks_each : (command : words.Command) → list_all (takes_or_lacks command) options ≡ true
+unfolding each_app
+takes_or_lacks_each Total = refl
+takes_or_lacks_each Central = refl
+takes_or_lacks_each Check = refl
+takes_or_lacks_each Child = refl
+takes_or_lacks_each Place = refl
+
+lacks_option : (command : words.Command) (option : Opt) → takes_option command option ≡ false
+    → is_absent (id_of option) (app_for command).top.rules ≡ true
+lacks_option command option none =
+    sym (ap (λ takes. takes || is_absent (id_of option) (app_for command).top.rules) none)
+    ∙ of_each (takes_or_lacks command) option (takes_or_lacks_each command)
+
+lacks_topology : (command : words.Command) → takes_sketch_options command ≡ false
+    → is_absent (codes "topology") (app_for command).top.rules ≡ true
+unfolding each_app
+lacks_topology Total none = refl
+lacks_topology Central none = absurd (true≢false none)
+lacks_topology Check none = refl
+lacks_topology Child none = refl
+lacks_topology Place none = refl
+
+-- the words of a command give nothing that it doesn't take
+pub bare_words : (command : words.Command) (app : Command) (m : ArgMatches) → IsStrict app → IsParsedFrom app m
+    → app_of app ≡ app_for command → IsBare command (rows_of (found_of m))
+bare_words command app m strict p is =
+    let none : (id : List ℕ) → is_absent id (app_for command).top.rules ≡ true
+    → first_of id (rows_of (found_of m)) ≡ None =
+    λ id absent. no_text app m id strict p (subst (λ (a : App). is_absent id a.top.rules ≡ true) (sym is) absent) in
+    record {
+      no_topology = λ lacks. none (codes "topology") (lacks_topology command lacks);
+      no_option = λ option lacks. none (id_of option) (lacks_option command option lacks);
+    }

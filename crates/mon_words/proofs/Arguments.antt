@@ -18,7 +18,7 @@ use Rattle.std.proofs.lemmas.Slice.Eq.{bytes_eq-Decides}
 use Rattle.mon_words.specs.Apps.{name_ids}
 use Rattle.mon_words.specs.Values.{IsNamed}
 use Rattle.mon_words.specs.declared.command.Command as words
-use Rattle.mon_words.specs.declared.command.Command.TheVariants.{Total, Central, Check, Child}
+use Rattle.mon_words.specs.declared.command.Command.TheVariants.{Total, Central, Check, Child, Place}
 use Rattle.mon_words.specs.Needs.{IsFresh, IsStrict, Needs, NeedsEach}
 
 -- an argument that is plain lifts no need
@@ -175,3 +175,8 @@ names_are_given Check app m strict needs parsed = (
   ),
 )
 names_are_given Child app m strict needs parsed = tt
+names_are_given Place app m strict needs parsed = (
+  name_is_given (codes "TOPOLOGY") app m strict needs.0 parsed (differs (codes "TOPOLOGY") [] refl)
+      (differs (codes "TOPOLOGY") (codes "help") refl) (differs (codes "TOPOLOGY") (codes "version") refl),
+  tt,
+)

@@ -1,26 +1,39 @@
--- What is read where no option is given.
-use Rattle.std.proofs.Common.{◌≡◌, List, refl, ap, subst, ◌∙◌, Option, Some, None, Result, Ok, Err, MatchResult, IfOk, false, rules}
+-- What is read of options that a command doesn't take.
+use Rattle.std.proofs.Common.{◌≡◌, List, refl, subst, Option, Some, None, Result, Ok, Err, MatchResult, IfOk, false, rules}
 use Rattle.std.specs.Option.{option_map_or}
 use Rattle.clap.specs.Words.{Row}
-use Rattle.mon_words.specs.Values.{Explains, HasDefaults, IsBare, Values, first_refused, read_of, takes_options, values_in}
+use Rattle.mon_words.specs.Values.{Explains, HasDefaults, HasSketchDefaults, HasSolveDefaults, IsBare, Values, first_refused, read_of, takes_sketch_options, takes_solve_options, values_in}
 use Rattle.mon_words.specs.declared.command.Command.{Command}
 use Rattle.mon_words.specs.declared.opt.Opt.{Opt}
 use Rattle.mon_words.specs.declared.usage_fault.UsageFault.TheVariants.{Value}
 use Rattle.mon_words.specs.declared.words_fault.WordsFault.{WordsFault}
-use Rattle.mon_words.specs.declared.opt.Opt.TheVariants.{Seed, Levels, Rows, Width, Heap, Weight, Epoch, Heavy}
+use Rattle.mon_words.specs.declared.opt.Opt.TheVariants.{Seed, Levels, Rows, Width, Heap, Weight, Epoch, Heavy, Nodes, Window, Restarts}
 
-bare_values : (command : Command) (rows : List Row) → IsBare rows → HasDefaults (values_in command rows)
-bare_values command rows bare = record {
-  no_topology = bare.no_topology;
-  seed_is = rw (bare.no_option Seed) refl;
-  levels_are = rw (bare.no_option Levels) refl;
-  rows_are = rw (bare.no_option Rows) refl;
-  width_is = rw (bare.no_option Width) refl;
-  heap_is = rw (bare.no_option Heap) refl;
-  no_bytes = rw (bare.no_option Weight) refl;
-  no_epoch = rw (bare.no_option Epoch) refl;
-  heavy_is = rw (bare.no_option Heavy) refl;
+sketch_values : (command : Command) (rows : List Row) → IsBare command rows → takes_sketch_options command ≡ false
+    → HasSketchDefaults (values_in command rows)
+sketch_values command rows bare none = record {
+  no_topology = bare.no_topology none;
+  seed_is = rw (bare.no_option Seed none) refl;
+  levels_are = rw (bare.no_option Levels none) refl;
+  rows_are = rw (bare.no_option Rows none) refl;
+  width_is = rw (bare.no_option Width none) refl;
+  heap_is = rw (bare.no_option Heap none) refl;
+  no_bytes = rw (bare.no_option Weight none) refl;
+  no_epoch = rw (bare.no_option Epoch none) refl;
+  heavy_is = rw (bare.no_option Heavy none) refl;
 }
+
+solve_values : (command : Command) (rows : List Row) → IsBare command rows → takes_solve_options command ≡ false
+    → HasSolveDefaults (values_in command rows)
+solve_values command rows bare none = record {
+  nodes_are = rw (bare.no_option Nodes none) refl;
+  window_is = rw (bare.no_option Window none) refl;
+  restarts_are = rw (bare.no_option Restarts none) refl;
+}
+
+bare_values : (command : Command) (rows : List Row) → IsBare command rows → HasDefaults (values_in command rows)
+bare_values command rows bare =
+    record { sketch = sketch_values command rows bare; solve = solve_values command rows bare }
 
 -- what is read are the values
 pub read_values : (command : Command) (rows : List Row) (values : Values) → read_of command rows ≡ Ok values
@@ -32,18 +45,10 @@ read_values command rows values = go (first_refused command rows)
     go None e = search rules
     go (Some option) e = cc
 
--- where a command takes no option, each has its default
-bare_defaults : (command : Command) (rows : List Row) (values : Values)
-    → (takes_options command ≡ false → IsBare rows) → read_of command rows ≡ Ok values
-    → takes_options values.command ≡ false → HasDefaults values
-bare_defaults command rows values bare read none =
-    let is = read_values command rows values read in
-    let own : takes_options command ≡ false = ap (λ (v : Values). takes_options v.command) is ∙ none in
-    subst (λ (v : Values). HasDefaults v) is (bare_values command rows (bare own))
-
+-- what a command doesn't take has its default
 pub bare_holds_defaults : (command : Command) (rows : List Row) (result : Result Values WordsFault)
-    → (takes_options command ≡ false → IsBare rows)
-    → MatchResult result (λ read. read_of command rows ≡ Ok read) (Explains (read_of command rows))
-    → IfOk result (λ read. takes_options read.command ≡ false → HasDefaults read)
-bare_holds_defaults command rows (Ok values) bare asked = λ none. bare_defaults command rows values bare asked none
+    → IsBare command rows → MatchResult result (λ read. read_of command rows ≡ Ok read) (Explains (read_of command rows))
+    → IfOk result HasDefaults
+bare_holds_defaults command rows (Ok values) bare asked =
+    subst HasDefaults (read_values command rows values asked) (bare_values command rows bare)
 bare_holds_defaults command rows (Err fault) bare asked = tt

@@ -1,5 +1,5 @@
 -- What plain words ask for.
-use Rattle.std.proofs.Common.{◌≡◌, ◌<◌, ◌≤◌, ◌^◌, ℕ, List, [], ◌∷◌, length, None, Some, Ok, true, false, codes, refl, ap, subst, ◌∙◌, arith}
+use Rattle.std.proofs.Common.{◌≡◌, ◌<◌, ◌≤◌, ◌^◌, ℕ, Bool, List, [], ◌∷◌, length, None, Some, Ok, true, false, codes, refl, ap, subst, ◌∙◌, arith}
 use Rattle.std.specs.Prelude.{bytes_eq}
 use Rattle.std.specs.Char.{is_ascii_digit}
 use Rattle.std.specs.Fmt.{decimal}
@@ -12,13 +12,13 @@ use borrow.Author.Tests.{ne_eqb}
 use Rattle.clap.specs.Lexer.{long_of, short_of}
 use Rattle.clap.specs.Words.{Row, first_of}
 use Rattle.clap.proofs.OnLiterals.{clap_on_literals}
-use Rattle.mon_words.specs.Apps.{central_app, check_app, child_app, total_app, with_sketch_options, with_trace_options}
+use Rattle.mon_words.specs.Apps.{central_app, check_app, child_app, place_app, total_app, with_sketch_options, with_solve_options, with_trace_options}
 use Rattle.mon_words.specs.Options.{id_of, takes}
 use Rattle.mon_words.specs.Plain.{IsPlain, plain_values}
 use Rattle.mon_words.specs.Values.{is_taken, read_of, rest_of, rows_in, words_of}
-use Rattle.mon_words.specs.declared.command.Command.TheVariants.{Total, Central, Check, Child}
+use Rattle.mon_words.specs.declared.command.Command.TheVariants.{Total, Central, Check, Child, Place}
 use Rattle.mon_words.proofs.Numerals.{own}
-use Rattle.mon_words.specs.declared.opt.Opt.TheVariants.{Seed, Levels, Rows, Width, Heap, Weight, Epoch, Heavy}
+use Rattle.mon_words.specs.declared.opt.Opt.TheVariants.{Seed, Levels, Rows, Width, Heap, Weight, Epoch, Heavy, Nodes, Window, Restarts}
 
 long_none : (byte : ℕ) (word : List ℕ) → IsPlain (byte ∷ word) → long_of (byte ∷ word) ≡ None
 long_none byte word plain = rw plain refl
@@ -29,27 +29,27 @@ short_none byte word plain = rw plain refl
 no_escape : (byte : ℕ) (word : List ℕ) → IsPlain (byte ∷ word) → bytes_eq (byte ∷ word) (45 ∷ 45 ∷ []) ≡ false
 no_escape byte word plain = rw plain refl
 
-pub total_plain : (name : List ℕ) → IsPlain name
-    → words_of (codes "total" ∷ name ∷ []) ≡ Ok (plain_values Total (name ∷ []) None)
+pub total_plain : (all : Bool) (name : List ℕ) → IsPlain name
+    → words_of all (codes "total" ∷ name ∷ []) ≡ Ok (plain_values Total (name ∷ []) None)
 unfolding is_taken rows_in clap_on_literals total_app
-total_plain [] plain = refl
-total_plain (byte ∷ name) plain =
+total_plain all [] plain = refl
+total_plain all (byte ∷ name) plain =
     rw (no_escape byte name plain, long_none byte name plain, short_none byte name plain) refl
 
-pub central_plain : (name : List ℕ) → IsPlain name
-    → words_of (codes "central" ∷ name ∷ []) ≡ Ok (plain_values Central (name ∷ []) None)
+pub central_plain : (all : Bool) (name : List ℕ) → IsPlain name
+    → words_of all (codes "central" ∷ name ∷ []) ≡ Ok (plain_values Central (name ∷ []) None)
 unfolding is_taken rows_in clap_on_literals central_app with_sketch_options with_trace_options
-central_plain [] plain = refl
-central_plain (byte ∷ name) plain =
+central_plain all [] plain = refl
+central_plain all (byte ∷ name) plain =
     rw (no_escape byte name plain, long_none byte name plain, short_none byte name plain) refl
 
-pub check_plain : (topology tree : List ℕ) → IsPlain topology → IsPlain tree
-    → words_of (codes "check" ∷ topology ∷ tree ∷ []) ≡ Ok (plain_values Check (topology ∷ tree ∷ []) None)
+pub check_plain : (all : Bool) (topology tree : List ℕ) → IsPlain topology → IsPlain tree
+    → words_of all (codes "check" ∷ topology ∷ tree ∷ []) ≡ Ok (plain_values Check (topology ∷ tree ∷ []) None)
 unfolding is_taken rows_in clap_on_literals check_app
-check_plain [] [] p q = refl
-check_plain [] (b ∷ tree) p q = rw (no_escape b tree q, long_none b tree q, short_none b tree q) refl
-check_plain (a ∷ topology) [] p q = rw (no_escape a topology p, long_none a topology p, short_none a topology p) refl
-check_plain (a ∷ topology) (b ∷ tree) p q =
+check_plain all [] [] p q = refl
+check_plain all [] (b ∷ tree) p q = rw (no_escape b tree q, long_none b tree q, short_none b tree q) refl
+check_plain all (a ∷ topology) [] p q = rw (no_escape a topology p, long_none a topology p, short_none a topology p) refl
+check_plain all (a ∷ topology) (b ∷ tree) p q =
     rw (
       no_escape a topology p,
       long_none a topology p,
@@ -71,6 +71,9 @@ record HasEpoch (rows : List Row) (name value : List ℕ) : Type 0 where
   no_heap : first_of (id_of Heap) rows ≡ None
   no_weight : first_of (id_of Weight) rows ≡ None
   no_heavy : first_of (id_of Heavy) rows ≡ None
+  no_nodes : first_of (id_of Nodes) rows ≡ None
+  no_window : first_of (id_of Window) rows ≡ None
+  no_restarts : first_of (id_of Restarts) rows ≡ None
 
 abbrev epoch_words : List ℕ → List ℕ → List (List ℕ)
 epoch_words name value = name ∷ codes "--epoch" ∷ value ∷ []
@@ -98,6 +101,9 @@ has_epoch a name b value p q =
       no_heap = refl;
       no_weight = refl;
       no_heavy = refl;
+      no_nodes = refl;
+      no_window = refl;
+      no_restarts = refl;
     })
 
 has_epoch_nameless : (b : ℕ) (value : List ℕ) → IsPlain (b ∷ value)
@@ -116,6 +122,9 @@ has_epoch_nameless b value q =
       no_heap = refl;
       no_weight = refl;
       no_heavy = refl;
+      no_nodes = refl;
+      no_window = refl;
+      no_restarts = refl;
     })
 
 taken_epoch : (a : ℕ) (name : List ℕ) (b : ℕ) (value : List ℕ) → IsPlain (a ∷ name) → IsPlain (b ∷ value)
@@ -149,6 +158,9 @@ read_epoch rows name value has taken =
       has.no_heap,
       has.no_weight,
       has.no_heavy,
+      has.no_nodes,
+      has.no_window,
+      has.no_restarts,
     )
     (rw taken refl)
 
@@ -159,13 +171,13 @@ rest_epoch : (words : List (List ℕ)) (name value : List ℕ) → is_taken Cent
 rest_epoch words name value taken has right = rw taken (read_epoch (rows_in Central words) name value has right)
 
 -- a name, and a value of the epoch that is taken
-epoch_value : (name value : List ℕ) → IsPlain name → IsPlain value → 0 < length value → takes Central Epoch value ≡ true
-    → words_of (codes "central" ∷ epoch_words name value)
+epoch_value : (all : Bool) (name value : List ℕ) → IsPlain name → IsPlain value → 0 < length value → takes Central Epoch value ≡ true
+    → words_of all (codes "central" ∷ epoch_words name value)
     ≡ Ok (plain_values Central (name ∷ []) (Some (digits_value 10 value)))
-epoch_value name [] p q some right = absurd (omega (arith, some))
-epoch_value [] (b ∷ value) p q some right =
+epoch_value all name [] p q some right = absurd (omega (arith, some))
+epoch_value all [] (b ∷ value) p q some right =
     rest_epoch _ _ _ (taken_nameless b value q) (has_epoch_nameless b value q) right
-epoch_value (a ∷ name) (b ∷ value) p q some right =
+epoch_value all (a ∷ name) (b ∷ value) p q some right =
     rest_epoch _ _ _ (taken_epoch a name b value p q) (has_epoch a name b value p q) right
 
 -- seconds as digits
@@ -184,15 +196,22 @@ seconds_taken seconds some fits =
     let long = decimal_nonempty seconds (omega (arith, fits)) in
     grind (arith, nat_tests)
 
-pub epoch_plain : (name : List ℕ) (seconds : ℕ) → IsPlain name → 1 ≤ seconds → seconds < 2 ^ 32
-    → words_of (codes "central" ∷ name ∷ codes "--epoch" ∷ decimal seconds ∷ [])
+pub epoch_plain : (all : Bool) (name : List ℕ) (seconds : ℕ) → IsPlain name → 1 ≤ seconds → seconds < 2 ^ 32
+    → words_of all (codes "central" ∷ name ∷ codes "--epoch" ∷ decimal seconds ∷ [])
     ≡ Ok (plain_values Central (name ∷ []) (Some seconds))
-epoch_plain name seconds plain some fits =
+epoch_plain all name seconds plain some fits =
     let small : seconds < 2 ^ 64 = omega (arith, fits) in
-    epoch_value name (decimal seconds) plain (plain_digits (decimal seconds) (digits_decimal own seconds small))
+    epoch_value all name (decimal seconds) plain (plain_digits (decimal seconds) (digits_decimal own seconds small))
     (decimal_nonempty seconds small) (seconds_taken seconds some fits)
     ∙ ap (λ n. Ok (plain_values Central (name ∷ []) (Some n))) (digits_value-decimal own seconds small)
 
-pub child_plain : words_of (codes "child" ∷ []) ≡ Ok (plain_values Child [] None)
+pub child_plain : (all : Bool) → words_of all (codes "child" ∷ []) ≡ Ok (plain_values Child [] None)
 unfolding is_taken rows_in clap_on_literals child_app
-child_plain = refl
+child_plain all = refl
+
+pub place_plain : (name : List ℕ) → IsPlain name
+    → words_of true (codes "place" ∷ name ∷ []) ≡ Ok (plain_values Place (name ∷ []) None)
+unfolding is_taken rows_in clap_on_literals place_app with_solve_options
+place_plain [] plain = refl
+place_plain (byte ∷ name) plain =
+    rw (no_escape byte name plain, long_none byte name plain, short_none byte name plain) refl

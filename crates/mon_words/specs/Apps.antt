@@ -3,7 +3,7 @@ use Rattle.std.specs.Prelude.{true, List, [], ◌∷◌, Some, ℕ, codes}
 use Rattle.clap.specs.Words.{App, Rule, new_app, new_rule, with_rule}
 use Rattle.clap.specs.declared.builder.action.ArgAction.TheVariants.{Set}
 use Rattle.mon_words.specs.declared.command.Command.{Command}
-use Rattle.mon_words.specs.declared.command.Command.TheVariants.{Total, Central, Check, Child}
+use Rattle.mon_words.specs.declared.command.Command.TheVariants.{Total, Central, Check, Child, Place}
 
 -- a word that has to stand in its place
 abbrev pub name_rule : List ℕ → Rule
@@ -38,6 +38,10 @@ with_sketch_options app =
 unfoldable pub with_trace_options : App → App
 with_trace_options app = with_option (codes "topology") (with_option (codes "heavy") (with_option (codes "epoch") app))
 
+-- the options of a search
+unfoldable pub with_solve_options : App → App
+with_solve_options app = with_option (codes "restarts") (with_option (codes "window") (with_option (codes "nodes") app))
+
 -- `central` takes the name of a trace, and options
 unfoldable pub central_app : App
 central_app = with_trace_options (with_sketch_options (with_name (codes "TRACE") (bare_app (codes "central"))))
@@ -50,15 +54,21 @@ check_app = with_name (codes "TREE") (with_name (codes "TOPOLOGY") (bare_app (co
 unfoldable pub child_app : App
 child_app = bare_app (codes "child")
 
+-- `place` takes the name of a topology, and options of a search
+unfoldable pub place_app : App
+place_app = with_solve_options (with_name (codes "TOPOLOGY") (bare_app (codes "place")))
+
 -- the ids of the names that a command takes, in order
 abbrev pub name_ids : Command → List (List ℕ)
 name_ids Total = codes "TRACE" ∷ []
 name_ids Central = codes "TRACE" ∷ []
 name_ids Check = codes "TOPOLOGY" ∷ codes "TREE" ∷ []
 name_ids Child = []
+name_ids Place = codes "TOPOLOGY" ∷ []
 
 abbrev pub app_for : Command → App
 app_for Total = total_app
 app_for Central = central_app
 app_for Check = check_app
 app_for Child = child_app
+app_for Place = place_app

@@ -5,13 +5,14 @@ use Rattle.std.specs.Char.{is_ascii_digit}
 use Rattle.std.specs.Str.Parse.{digits_value}
 use Rattle.hash_family.specs.Limits.{is_rows, is_width}
 use Rattle.mon_words.specs.declared.command.Command.{Command}
-use Rattle.mon_words.specs.declared.command.Command.TheVariants.{Total, Central, Check, Child}
+use Rattle.mon_words.specs.declared.command.Command.TheVariants.{Central}
 use Rattle.mon_words.specs.declared.opt.Opt.{Opt}
-use Rattle.mon_words.specs.declared.opt.Opt.TheVariants.{Seed, Levels, Rows, Width, Heap, Weight, Epoch, Heavy}
+use Rattle.mon_words.specs.declared.opt.Opt.TheVariants.{Seed, Levels, Rows, Width, Heap, Weight, Epoch, Heavy, Nodes, Window, Restarts}
 
 -- the options in the order of the table
 abbrev pub options : List Opt
-options = Seed ∷ Levels ∷ Rows ∷ Width ∷ Heap ∷ Weight ∷ Epoch ∷ Heavy ∷ []
+options =
+    Seed ∷ Levels ∷ Rows ∷ Width ∷ Heap ∷ Weight ∷ Epoch ∷ Heavy ∷ Nodes ∷ Window ∷ Restarts ∷ []
 
 -- an option's name without the dashes
 abbrev pub id_of : Opt → List ℕ
@@ -23,6 +24,9 @@ id_of Heap = codes "heap"
 id_of Weight = codes "weight"
 id_of Epoch = codes "epoch"
 id_of Heavy = codes "heavy"
+id_of Nodes = codes "nodes"
+id_of Window = codes "window"
+id_of Restarts = codes "restarts"
 
 -- an option as it is written
 abbrev pub name_of : Opt → List ℕ
@@ -30,17 +34,13 @@ name_of option = codes "--" ++ id_of option
 
 -- the least heap that a command takes: 0, which keeps all live keys, is for `central` alone
 abbrev pub least_heap : Command → ℕ
-least_heap Total = 1
 least_heap Central = 0
-least_heap Check = 1
-least_heap Child = 1
+least_heap _ = 1
 
 -- the heap of a command where it is not given
 abbrev pub default_heap : Command → ℕ
-default_heap Total = 64
 default_heap Central = 0
-default_heap Check = 64
-default_heap Child = 64
+default_heap _ = 64
 
 -- the numbers that an option of a command takes; a weight is a word
 abbrev pub is_in_range : Command → Opt → ℕ → Bool
@@ -52,6 +52,9 @@ is_in_range command Heap number = nat_le (least_heap command) number && nat_le n
 is_in_range command Weight number = false
 is_in_range command Epoch number = nat_le 1 number && nat_lt number (2 ^ 32)
 is_in_range command Heavy number = nat_le 1 number && nat_le number 1000
+is_in_range command Nodes number = nat_le 1 number && nat_le number 4096
+is_in_range command Window number = nat_le 1 number && nat_le number 32
+is_in_range command Restarts number = nat_le number 16
 
 -- 1 to 20 digits
 abbrev pub is_numeral : List ℕ → Bool
@@ -68,14 +71,8 @@ is_weight value = bytes_eq value (codes "packets") || bytes_eq value (codes "byt
 
 -- whether the value of an option is a number
 abbrev pub has_number : Opt → Bool
-has_number Seed = true
-has_number Levels = true
-has_number Rows = true
-has_number Width = true
-has_number Heap = true
 has_number Weight = false
-has_number Epoch = true
-has_number Heavy = true
+has_number _ = true
 
 -- an option of a command takes this value
 abbrev pub takes : Command → Opt → List ℕ → Bool

@@ -22,4 +22,7 @@ plain_values command names epoch = record {
   bytes = false;
   epoch = epoch;
   heavy = 10;
+  nodes = 1024;
+  window = 4;
+  restarts = 3;
 }

@@ -1,5 +1,5 @@
 -- What the words of a call ask for.
-use Rattle.std.specs.Prelude.{◌≡◌, ◌≤◌, ◌==◌, ℕ, List, [], ◌∷◌, length, find, bytes_eq, codes, Bool, true, false, Option, Some, None, IfSome, not, is_some, Result, Ok, Err, IsTrue, ⊤, if◌then◌else◌}
+use Rattle.std.specs.Prelude.{◌≡◌, ◌≤◌, ◌==◌, ◌&&◌, ℕ, List, [], ◌∷◌, length, find, bytes_eq, codes, Bool, true, false, Option, Some, None, IfSome, not, is_some, Result, Ok, Err, IsTrue, ⊤, if◌then◌else◌}
 use Rattle.std.specs.List.{AllByRecursion, flat_map}
 use Rattle.std.specs.Option.{option_map, option_map_or}
 use Rattle.std.specs.Str.Parse.{digits_value}
@@ -8,9 +8,9 @@ use Rattle.hash_family.specs.Limits.{is_rows, is_width}
 use Rattle.mon_words.specs.Apps.{app_for, name_ids}
 use Rattle.mon_words.specs.Options.{default_heap, id_of, options, takes}
 use Rattle.mon_words.specs.declared.command.Command.{Command}
-use Rattle.mon_words.specs.declared.command.Command.TheVariants.{Total, Central, Check, Child}
+use Rattle.mon_words.specs.declared.command.Command.TheVariants.{Total, Central, Check, Child, Place}
 use Rattle.mon_words.specs.declared.opt.Opt.{Opt}
-use Rattle.mon_words.specs.declared.opt.Opt.TheVariants.{Seed, Levels, Rows, Width, Heap, Weight, Epoch, Heavy}
+use Rattle.mon_words.specs.declared.opt.Opt.TheVariants.{Seed, Levels, Rows, Width, Heap, Weight, Epoch, Heavy, Nodes, Window, Restarts}
 use Rattle.mon_words.specs.declared.usage_fault.UsageFault.{UsageFault}
 use Rattle.mon_words.specs.declared.usage_fault.UsageFault.TheVariants.{NoCommand, UnknownCommand, Refused, Value}
 use Rattle.mon_words.specs.declared.words_fault.WordsFault.{WordsFault}
@@ -29,6 +29,9 @@ pub record Values : Type 0 where
   pub bytes : Bool
   pub epoch : Option ℕ
   pub heavy : ℕ
+  pub nodes : ℕ
+  pub window : ℕ
+  pub restarts : ℕ
 
 -- how many names a command takes
 abbrev pub name_count : Command → ℕ
@@ -36,13 +39,29 @@ name_count Total = 1
 name_count Central = 1
 name_count Check = 2
 name_count Child = 0
+name_count Place = 1
 
--- whether a command takes options
-abbrev pub takes_options : Command → Bool
-takes_options Total = false
-takes_options Central = true
-takes_options Check = false
-takes_options Child = false
+-- whether a command starts children
+abbrev pub starts_children : Command → Bool
+starts_children Place = true
+starts_children _ = false
+
+-- whether a command takes a topology and the options of a sketch and of a trace
+abbrev pub takes_sketch_options : Command → Bool
+takes_sketch_options Central = true
+takes_sketch_options _ = false
+
+-- whether a command takes the options of a search
+abbrev pub takes_solve_options : Command → Bool
+takes_solve_options Place = true
+takes_solve_options _ = false
+
+-- whether a command takes an option
+abbrev pub takes_option : Command → Opt → Bool
+takes_option command Nodes = takes_solve_options command
+takes_option command Window = takes_solve_options command
+takes_option command Restarts = takes_solve_options command
+takes_option command _ = takes_sketch_options command
 
 -- the numbers are within their limits, where a heap of 0 keeps all live keys, and there are as many names as the
 -- command takes
@@ -55,9 +74,14 @@ pub record IsInRange (values : Values) : Type 0 where
   pub epoch_from : IfSome values.epoch (λ seconds. 1 ≤ seconds)
   pub heavy_from : 1 ≤ values.heavy
   pub heavy_up_to : values.heavy ≤ 1000
+  pub nodes_from : 1 ≤ values.nodes
+  pub nodes_to : values.nodes ≤ 4096
+  pub window_from : 1 ≤ values.window
+  pub window_to : values.window ≤ 32
+  pub restarts_to : values.restarts ≤ 16
 
--- no topology is named, and each option has its default
-pub record HasDefaults (values : Values) : Type 0 where
+-- no topology is named, and each option of a sketch and of a trace has its default
+pub record HasSketchDefaults (values : Values) : Type 0 where
   pub no_topology : values.topology ≡ None
   pub seed_is : values.seed ≡ 1
   pub levels_are : values.levels ≡ 12
@@ -68,13 +92,25 @@ pub record HasDefaults (values : Values) : Type 0 where
   pub no_epoch : values.epoch ≡ None
   pub heavy_is : values.heavy ≡ 10
 
--- the command that a word names
-abbrev pub command_of : List ℕ → Option Command
-command_of word =
+-- each option of a search has its default
+pub record HasSolveDefaults (values : Values) : Type 0 where
+  pub nodes_are : values.nodes ≡ 1024
+  pub window_is : values.window ≡ 4
+  pub restarts_are : values.restarts ≡ 3
+
+-- what the command doesn't take has its default
+pub record HasDefaults (values : Values) : Type 0 where
+  pub sketch : takes_sketch_options values.command ≡ false → HasSketchDefaults values
+  pub solve : takes_solve_options values.command ≡ false → HasSolveDefaults values
+
+-- the command that a word names, of all or of those that start no children
+abbrev pub command_of : Bool → List ℕ → Option Command
+command_of all word =
     if bytes_eq word (codes "total") then Some Total
     else if bytes_eq word (codes "central") then Some Central
     else if bytes_eq word (codes "check") then Some Check
     else if bytes_eq word (codes "child") then Some Child
+    else if all && bytes_eq word (codes "place") then Some Place
     else None
 
 -- clap's definition of the command takes the words behind its name
@@ -85,10 +121,10 @@ is_taken command words = length (fault_of (app_for command) words) == 0
 unfoldable pub rows_in : Command → List (List ℕ) → List Row
 rows_in command words = matches_of (app_for command) words
 
--- neither a topology nor an option is given
-pub record IsBare (rows : List Row) : Type 0 where
-  pub no_topology : first_of (codes "topology") rows ≡ None
-  pub no_option : (option : Opt) → first_of (id_of option) rows ≡ None
+-- neither a topology nor an option is given that the command doesn't take
+pub record IsBare (command : Command) (rows : List Row) : Type 0 where
+  pub no_topology : takes_sketch_options command ≡ false → first_of (codes "topology") rows ≡ None
+  pub no_option : (option : Opt) → takes_option command option ≡ false → first_of (id_of option) rows ≡ None
 
 -- each name of the command is given
 abbrev pub IsNamed : Command → List Row → Type 0
@@ -133,6 +169,9 @@ values_in command rows = record {
   bytes = weighs_bytes rows;
   epoch = option_map (digits_value 10) (first_of (id_of Epoch) rows);
   heavy = number_or rows Heavy 10;
+  nodes = number_or rows Nodes 1024;
+  window = number_or rows Window 4;
+  restarts = number_or rows Restarts 3;
 }
 
 -- what is read of a command's words, unless the value of an option is refused
@@ -144,10 +183,11 @@ read_of command rows =
 abbrev pub rest_of : Command → List (List ℕ) → Result Values UsageFault
 rest_of command words = if is_taken command words then read_of command (rows_in command words) else Err Refused
 
--- the words of a call
-abbrev pub words_of : List (List ℕ) → Result Values UsageFault
-words_of [] = Err NoCommand
-words_of (word ∷ words) = option_map_or (λ command. rest_of command words) (command_of word) (Err UnknownCommand)
+-- the words of a call, where all commands are known or those that start no children
+abbrev pub words_of : Bool → List (List ℕ) → Result Values UsageFault
+words_of all [] = Err NoCommand
+words_of all (word ∷ words) =
+    option_map_or (λ command. rest_of command words) (command_of all word) (Err UnknownCommand)
 
 -- the words are refused for this cause; want of memory is free
 abbrev pub Explains : Result Values UsageFault → WordsFault → Type 0

@@ -2,7 +2,7 @@
 ghost use Rattle.std.specs.Prelude.{◌≡◌, ℕ, List, [], IfOk, codes, bytes_eq, true, false};
 ghost use Rattle.clap.specs.Built.{IsPlainArg, TakesValue};
 ghost use Rattle.clap.specs.Words.{app_of, args_of, rule_of};
-ghost use Rattle.mon_words.specs.Apps.{bare_app, central_app, check_app, child_app, name_rule, option_rule, total_app, with_name, with_option, with_sketch_options, with_trace_options};
+ghost use Rattle.mon_words.specs.Apps.{bare_app, central_app, check_app, child_app, name_rule, option_rule, place_app, total_app, with_name, with_option, with_sketch_options, with_solve_options, with_trace_options};
 ghost use Rattle.mon_words.specs.Needs.{IsFresh, IsStrict, Needs};
 
 use clap::{Arg, ArgAction, Command};
@@ -52,6 +52,18 @@ pub(crate) fn child_app<'a>(alloc: Global) -> Result<Command<'a>, AllocError>
     Ok(bare_app(alloc, "child"))
 }
 
+/// The words behind `place`.
+#[tactic(auto, unfolding(crate::specs::Apps::place_app))]
+pub(crate) fn place_app<'a>(alloc: Global) -> Result<Command<'a>, AllocError>
+    ensures app { IfOk result (λ app. app_of app ≡ place_app) }
+    ensures strict { IfOk result IsStrict }
+    ensures needs { IfOk result (Needs (codes "TOPOLOGY")) }
+{
+    let app = with_name(alloc, bare_app(alloc, "place"), "TOPOLOGY")?;
+    let app = with_solve_options(alloc, app)?;
+    Ok(app)
+}
+
 // With the options of a sketch.
 #[tactic(auto, unfolding(crate::specs::Apps::with_sketch_options))]
 fn with_sketch_options<'a>(alloc: Global, app: Command<'a>) -> Result<Command<'a>, AllocError>
@@ -82,6 +94,21 @@ fn with_trace_options<'a>(alloc: Global, app: Command<'a>) -> Result<Command<'a>
     let app = with_option(alloc, app, "epoch")?;
     let app = with_option(alloc, app, "heavy")?;
     let app = with_option(alloc, app, "topology")?;
+    Ok(app)
+}
+
+// With the options of a search.
+#[tactic(auto, unfolding(crate::specs::Apps::with_solve_options))]
+fn with_solve_options<'a>(alloc: Global, app: Command<'a>) -> Result<Command<'a>, AllocError>
+    requires strict { IsStrict app }
+    requires needs { Needs (codes "TOPOLOGY") app }
+    ensures app { IfOk result (λ more. app_of more ≡ with_solve_options (app_of app.entry)) }
+    ensures strict { IfOk result IsStrict }
+    ensures needs { IfOk result (Needs (codes "TOPOLOGY")) }
+{
+    let app = with_option(alloc, app, "nodes")?;
+    let app = with_option(alloc, app, "window")?;
+    let app = with_option(alloc, app, "restarts")?;
     Ok(app)
 }
 

@@ -1,7 +1,7 @@
 //! The commands.
-ghost use Rattle.std.specs.Prelude.{◌≡◌, ◌≤◌};
+ghost use Rattle.std.specs.Prelude.{◌≡◌, ◌≤◌, IfSome, false};
 ghost use Rattle.mon_words.specs.Options.{default_heap, least_heap};
-ghost use Rattle.mon_words.specs.Values.{command_of};
+ghost use Rattle.mon_words.specs.Values.{command_of, starts_children};
 
 /// A command.
 #[derive(Clone, Copy, Debug, PartialEq, Eq)]
@@ -14,12 +14,15 @@ pub enum Command {
     Check,
     /// `child`: reads a job, and writes its reply.
     Child,
+    /// `place`: places the paths of a topology.
+    Place,
 }
 
 impl Command {
-    // The command with this name.
-    pub(crate) fn named(word: &str) -> Option<Command>
-        ensures command { result ≡ command_of word.now }
+    // The command with this name, of all or of those that start no children.
+    pub(crate) fn named(word: &str, all: bool) -> Option<Command>
+        ensures command { result ≡ command_of all word.now }
+        ensures alone { all ≡ false → IfSome result (λ command. starts_children command ≡ false) }
     {
         if word == "total" {
             Some(Command::Total)
@@ -29,6 +32,8 @@ impl Command {
             Some(Command::Check)
         } else if word == "child" {
             Some(Command::Child)
+        } else if all && word == "place" {
+            Some(Command::Place)
         } else {
             None
         }
@@ -44,6 +49,7 @@ impl Command {
             Command::Central => 0,
             Command::Check => 64,
             Command::Child => 64,
+            Command::Place => 64,
         }
     }
 
@@ -52,7 +58,7 @@ impl Command {
         ensures number { result ≡ least_heap self }
     {
         match self {
-            Command::Total | Command::Check | Command::Child => 1,
+            Command::Total | Command::Check | Command::Child | Command::Place => 1,
             Command::Central => 0,
         }
     }

@@ -5,9 +5,9 @@ ghost use Rattle.clap.specs.Words.{app_of, first_of, found_of, rows_of};
 ghost use Rattle.mon_words.specs.Apps.{app_for, name_ids};
 ghost use Rattle.mon_words.specs.Needs.{IsStrict, NeedsEach};
 ghost use Rattle.mon_words.specs.Options.{has_number, id_of, is_in_range};
-ghost use Rattle.mon_words.specs.Values.{Explains, IsBare, IsNamed, is_refused, is_taken, number_or, rest_of, rows_in, takes_options};
+ghost use Rattle.mon_words.specs.Values.{Explains, IsBare, IsNamed, is_refused, is_taken, number_or, rest_of, rows_in};
 
-use crate::app::{central_app, check_app, child_app, total_app};
+use crate::app::{central_app, check_app, child_app, place_app, total_app};
 use crate::numeral::number;
 use crate::{Command, Opt, UsageFault, WordsFault};
 use clap::ArgMatches;
@@ -23,8 +23,7 @@ pub(crate) fn matches_in<'a>(
     ensures taken { IfOk result (λ _. is_taken command (map string_bytes words.now) ≡ true) }
     ensures rows { IfOk result (λ matches. rows_of (found_of matches) ≡ rows_in command (map string_bytes words.now)) }
     ensures named { IfOk result (λ _. IsNamed command (rows_in command (map string_bytes words.now))) }
-    ensures bare { IfOk result
-        (λ _. takes_options command ≡ false → IsBare (rows_in command (map string_bytes words.now))) }
+    ensures bare { IfOk result (λ _. IsBare command (rows_in command (map string_bytes words.now))) }
     ensures refused { IfErr result (Explains (rest_of command (map string_bytes words.now))) }
 {
     let Ok(app) = app_for(alloc, command) else {
@@ -50,6 +49,7 @@ fn app_for<'a>(alloc: Global, command: Command) -> Result<clap::Command<'a>, All
         Command::Central => central_app(alloc),
         Command::Check => check_app(alloc),
         Command::Child => child_app(alloc),
+        Command::Place => place_app(alloc),
     }
 }
 

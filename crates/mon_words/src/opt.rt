@@ -23,6 +23,12 @@ pub enum Opt {
     Epoch,
     /// `--heavy`: 1 to 1,000 per mille, by default 10.
     Heavy,
+    /// `--nodes`: 1 to 4,096, by default 1,024.
+    Nodes,
+    /// `--window`: 1 to 32, by default 4.
+    Window,
+    /// `--restarts`: 0 to 16, by default 3.
+    Restarts,
 }
 
 impl Opt {
@@ -39,6 +45,9 @@ impl Opt {
             Opt::Weight => "--weight",
             Opt::Epoch => "--epoch",
             Opt::Heavy => "--heavy",
+            Opt::Nodes => "--nodes",
+            Opt::Window => "--window",
+            Opt::Restarts => "--restarts",
         }
     }
 
@@ -55,6 +64,9 @@ impl Opt {
             Opt::Weight => "weight",
             Opt::Epoch => "epoch",
             Opt::Heavy => "heavy",
+            Opt::Nodes => "nodes",
+            Opt::Window => "window",
+            Opt::Restarts => "restarts",
         }
     }
 
@@ -71,6 +83,9 @@ impl Opt {
             Opt::Weight => false,
             Opt::Epoch => 1 <= number && number <= 4_294_967_295,
             Opt::Heavy => 1 <= number && number <= 1000,
+            Opt::Nodes => 1 <= number && number <= 4096,
+            Opt::Window => 1 <= number && number <= 32,
+            Opt::Restarts => number <= 16,
         }
     }
 }

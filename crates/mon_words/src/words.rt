@@ -4,7 +4,7 @@ ghost use Rattle.std.specs.Option.{option_map};
 ghost use Rattle.std.specs.Str.Parse.{digits_value};
 ghost use Rattle.clap.specs.Words.{first_of, found_of, rows_of};
 ghost use Rattle.mon_words.specs.Options.{id_of};
-ghost use Rattle.mon_words.specs.Values.{Explains, HasDefaults, IsInRange, IsNamed, is_refused, name_count, name_in, names_in, read_of, rest_of, takes_options, weighs_bytes, words_of};
+ghost use Rattle.mon_words.specs.Values.{Explains, HasDefaults, IsInRange, IsNamed, is_refused, name_count, name_in, names_in, read_of, rest_of, starts_children, weighs_bytes, words_of};
 
 use crate::matches::{matches_in, number_given, number_or, text_of};
 use crate::{Command, Opt, UsageFault, WordsFault};
@@ -17,7 +17,8 @@ use std::marker::Model;
 #[derive(Debug, Drop)]
 pub struct Words {
     pub command: Command,
-    /// One name, of a trace; for `check` two, of a topology and of a tree; for `child` none.
+    /// One name, of a trace; for `check` two, of a topology and of a tree; for `child` none; for `place` one, of a
+    /// topology.
     pub names: Vec<String>,
     /// `--topology`, any text.
     pub topology: Option<String>,
@@ -37,6 +38,12 @@ pub struct Words {
     pub epoch: Option<u32>,
     /// `--heavy`, the share of a heavy key: 1 to 1,000 per mille.
     pub heavy: u32,
+    /// `--nodes`, how many nodes a search has: 1 to 4,096.
+    pub nodes: u32,
+    /// `--window`, how many children may be out together: 1 to 32.
+    pub window: u32,
+    /// `--restarts`, how many attempts at a job may be bad before it is given up: 0 to 16.
+    pub restarts: u32,
 }
 
 impl Model for Words {
@@ -58,24 +65,29 @@ impl Model for Words {
       bytes = words.bytes;
       epoch = words.epoch;
       heavy = words.heavy;
+      nodes = words.nodes;
+      window = words.window;
+      restarts = words.restarts;
     } };
 }
 
-/// Reads the words of a call, of which the first is the command. They are refused exactly where there is none
-/// (`NoCommand`), the first is no command (`UnknownCommand`), clap does not take the others (`Refused`), or the value
-/// of an option is none that it takes (`Value`, the first in the order of the table). A number is 1 to 20 digits, of
-/// which the first may be 0, within its range. Takes memory.
-pub fn read_words(alloc: Global, words: &[String]) -> Result<Words, WordsFault>
+/// Reads the words of a call, of which the first is the command: one of all, or where `all` is false one of those that
+/// start no children. They are refused exactly where there is none (`NoCommand`), the first is no such command
+/// (`UnknownCommand`), clap does not take the others (`Refused`), or the value of an option is none that it takes
+/// (`Value`, the first in the order of the table). A number is 1 to 20 digits, of which the first may be 0, within its
+/// range. Takes memory.
+pub fn read_words(alloc: Global, words: &[String], all: bool) -> Result<Words, WordsFault>
     ensures asked { MatchResult result
-        (λ read. words_of (map string_bytes words.now) ≡ Ok read)
-        (Explains (words_of (map string_bytes words.now))) }
+        (λ read. words_of all (map string_bytes words.now) ≡ Ok read)
+        (Explains (words_of all (map string_bytes words.now))) }
     ensures range { IfOk result IsInRange }
-    ensures defaults { IfOk result (λ read. takes_options read.command ≡ false → HasDefaults read) }
+    ensures defaults { IfOk result HasDefaults }
+    ensures alone { IfOk result (λ read. all ≡ false → starts_children read.command ≡ false) }
 {
     let [first, rest @ ..] = words else {
         return Err(WordsFault::Usage(UsageFault::NoCommand));
     };
-    match Command::named(first.as_str()) {
+    match Command::named(first.as_str(), all) {
         Some(command) => read_rest(alloc, command, rest),
         None => Err(WordsFault::Usage(UsageFault::UnknownCommand)),
     }
@@ -87,7 +99,8 @@ fn read_rest(alloc: Global, command: Command, words: &[String]) -> Result<Words,
         (λ read. rest_of command (map string_bytes words.now) ≡ Ok read)
         (Explains (rest_of command (map string_bytes words.now))) }
     ensures range { IfOk result IsInRange }
-    ensures defaults { IfOk result (λ read. takes_options read.command ≡ false → HasDefaults read) }
+    ensures command { IfOk result (λ read. read.command ≡ command) }
+    ensures defaults { IfOk result HasDefaults }
 {
     let matches = matches_in(alloc, command, words)?;
     read_matches(alloc, command, &matches)
@@ -104,6 +117,7 @@ fn read_matches(
         (λ read. read_of command (rows_of (found_of matches.now)) ≡ Ok read)
         (Explains (read_of command (rows_of (found_of matches.now)))) }
     ensures range { IfOk result IsInRange }
+    ensures command { IfOk result (λ read. read.command ≡ command) }
 {
     let Ok(names) = names_in(alloc, matches, command) else {
         return Err(WordsFault::Memory);
@@ -119,6 +133,9 @@ fn read_matches(
     let bytes = weight_in(matches)?;
     let epoch = epoch_in(matches, command)?;
     let heavy = number_or(matches, command, Opt::Heavy, 10)?;
+    let nodes = number_or(matches, command, Opt::Nodes, 1024)?;
+    let window = number_or(matches, command, Opt::Window, 4)?;
+    let restarts = number_or(matches, command, Opt::Restarts, 3)?;
     Ok(Words {
         command,
         names,
@@ -131,6 +148,9 @@ fn read_matches(
         bytes,
         epoch,
         heavy: heavy as u32,
+        nodes: nodes as u32,
+        window: window as u32,
+        restarts: restarts as u32,
     })
 }
 
@@ -153,6 +173,7 @@ fn names_in(
             add_name(alloc, matches, "TOPOLOGY", &mut names)?;
             add_name(alloc, matches, "TREE", &mut names)?;
         }
+        Command::Place => add_name(alloc, matches, "TOPOLOGY", &mut names)?,
     }
     Ok(names)
 }

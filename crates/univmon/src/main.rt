@@ -2,9 +2,9 @@
 //! could not on standard error, and ends with the number of the status.
 #![tactic(auto)]
 
-use mon_command::{Status, UsageFault, run_alone, status_line, status_number};
-use mon_io::{HostInputs, HostSink};
-use std::process::ExitCode;
+use mon_command::{Status, UsageFault, status_line, status_number};
+use mon_program::run_program;
+use std::process::{ExitCode, Processes};
 use std::rt::{Env, Files};
 use std::{env, io};
 
@@ -15,12 +15,12 @@ fn main(rt: HostRuntime) -> ExitCode {
 }
 
 // Does what the words of the command line ask for.
-fn run<R: Env + Files + Input + Print + AllocGlobal>(rt: &R) -> Status {
+fn run<R: Env + Files + Input + Print + Processes + AllocGlobal>(rt: &R) -> Status {
     match words(rt) {
         Ok(words) => {
-            let mut inputs = HostInputs::new(rt);
-            let mut sink = HostSink::new(rt);
-            run_alone(rt.alloc(), &words, &mut inputs, &mut sink)
+            let file = env::current_exe(rt).ok();
+            let own = file.as_ref().and_then(|file| file.to_str());
+            run_program(rt, rt.alloc(), own, &words)
         }
         Err(error) if error.kind() == io::ErrorKind::OutOfMemory => Status::Memory,
         // A word that isn't UTF-8.

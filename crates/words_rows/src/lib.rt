@@ -2,11 +2,14 @@
 //!
 //! - `lines`: words from a line
 //! - `taken`, `refused`: what `read_words` of `mon_words` answers
+//! - `searches`: the words of `place`, and the options of a search
 #![tactic(auto)]
 
 #[cfg(test)]
 mod lines;
 #[cfg(test)]
 mod refused;
+#[cfg(test)]
+mod searches;
 #[cfg(test)]
 mod taken;

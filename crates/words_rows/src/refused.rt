@@ -27,7 +27,7 @@ fn refuses_words(rt: HostRuntime) -> Result<(), Fail> {
         let fault = WordsFault::Usage(fault);
         assert_eq!(rt; read(rt.alloc(), line)?.err(), Some(fault), "{line}");
     }
-    let none = read_words(rt.alloc(), &[]).err();
+    let none = read_words(rt.alloc(), &[], true).err();
     assert_eq!(rt; none, Some(WordsFault::Usage(UsageFault::NoCommand)));
     Ok(())
 }

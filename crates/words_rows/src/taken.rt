@@ -102,6 +102,9 @@ fn names_options(rt: HostRuntime) {
         (Opt::Weight, "--weight"),
         (Opt::Epoch, "--epoch"),
         (Opt::Heavy, "--heavy"),
+        (Opt::Nodes, "--nodes"),
+        (Opt::Window, "--window"),
+        (Opt::Restarts, "--restarts"),
     ];
     for (option, name) in options {
         assert_eq!(rt; option.name(), name);

@@ -1,6 +1,7 @@
-//! The number and the line of each fault of a topology, and of a late and a heavy record.
+//! The number and the line of each fault of a topology, of a late and a heavy record, and of each end of a search.
 
-use mon_command::{Input, Status, TraceFault, status_line, status_number};
+use mon_command::{Input, Phase, Status, TraceFault, status_line, status_number};
+use replay_core::Bad;
 use std::test::Fail;
 use topology::{Entry, TopologyFault, What};
 
@@ -85,5 +86,60 @@ fn late_and_heavy_records_have_their_lines(rt: HostRuntime) -> Result<(), Fail> 
     );
     let told = status_line(alloc, &Status::ReadFault(Input::Topology))?;
     assert_eq!(rt; told.as_bytes(), "univmon: cannot read topology".as_bytes());
+    Ok(())
+}
+
+#[test]
+fn each_end_of_a_search_has_its_line(rt: HostRuntime) -> Result<(), Fail> {
+    let alloc = rt.alloc();
+    for (status, number, line) in [
+        (Status::Infeasible, 6, "univmon: infeasible"),
+        (
+            Status::SearchBudget { nodes: 2 },
+            7,
+            "univmon: search budget 2 spent",
+        ),
+        (
+            Status::StaleLimit {
+                phase: Phase::Solve,
+            },
+            9,
+            "univmon: too many stale events: solve",
+        ),
+        (
+            Status::StaleLimit {
+                phase: Phase::Replay,
+            },
+            9,
+            "univmon: too many stale events: replay",
+        ),
+    ] {
+        assert_eq!(rt; status_number(&status), number, "{line}");
+        let told = status_line(alloc, &status)?;
+        assert_eq!(rt; told.as_bytes(), line.as_bytes());
+    }
+    Ok(())
+}
+
+#[test]
+fn spent_restarts_have_their_line(rt: HostRuntime) -> Result<(), Fail> {
+    let alloc = rt.alloc();
+    let bad = Bad {
+        start: 1,
+        feed: 2,
+        died: 3,
+        reply: 4,
+    };
+    for (phase, job, told) in [
+        (Phase::Solve, 0, "solve job 0"),
+        (Phase::Replay, 17, "replay job 17"),
+    ] {
+        let status = Status::RestartsSpent { phase, job, bad };
+        assert_eq!(rt; status_number(&status), 8);
+        let line = format!(in alloc;
+            "univmon: restarts spent: {told}: start 1 feed 2 died 3 reply 4"
+        )?;
+        assert_eq!(rt; status_line(alloc, &status)?.as_bytes(), line.as_bytes());
+    }
     Ok(())
 }

@@ -1,4 +1,4 @@
-use Rattle.mon_words.proofs.Plain.{central_plain, check_plain, child_plain, epoch_plain, total_plain}
+use Rattle.mon_words.proofs.Plain.{central_plain, check_plain, child_plain, epoch_plain, place_plain, total_plain}
 use Rattle.mon_words.proofs.laws.plain_words.Goals as goal
 
 pub returns-clause-total : goal.returns-clause-total
@@ -15,3 +15,6 @@ returns-clause-check c = check_plain
 
 pub returns-clause-child : goal.returns-clause-child
 returns-clause-child c = child_plain
+
+pub returns-clause-place : goal.returns-clause-place
+returns-clause-place c = place_plain

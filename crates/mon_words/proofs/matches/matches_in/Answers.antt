@@ -42,8 +42,8 @@ returns c =
 
 pub returns-in-Ok-try_get_matches_from-clause-bare :
     goal.returns-in-Ok-try_get_matches_from-clause-bare
-returns-in-Ok-try_get_matches_from-clause-bare c = λ none.
+returns-in-Ok-try_get_matches_from-clause-bare c =
     let matches = c.in-Ok-try_get_matches_from.matches in
-    subst IsBare (returns-in-Ok-try_get_matches_from-clause-rows c)
-    (bare_words c.args.command c.in-Ok.app matches none
+    subst (IsBare c.args.command) (returns-in-Ok-try_get_matches_from-clause-rows c)
+    (bare_words c.args.command c.in-Ok.app matches
     c.in-Ok.ensures.strict c.in-Ok-try_get_matches_from.ensures.parsed c.in-Ok.ensures.app)

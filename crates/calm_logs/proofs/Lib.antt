@@ -1,0 +1,5 @@
+pub mod Outs
+pub mod Fed
+pub mod Supervised
+pub mod Told
+pub mod Searches

@@ -1,0 +1,2 @@
+mod Calm
+mod Words

@@ -1,0 +1,4 @@
+pub mod Ends
+pub mod Alike
+pub mod Stops
+pub mod Counts

@@ -1,0 +1,3 @@
+pub mod Phase
+pub mod Solving
+pub mod Told
