@@ -1,3 +1,4 @@
 pub mod Levels
 pub mod Merged
+pub mod Merging
 pub mod Next
