@@ -1,1 +1,5 @@
+pub mod Epoch
+pub mod Pieces
 pub mod Reading
+pub mod Replays
+pub mod ReplayJobs
