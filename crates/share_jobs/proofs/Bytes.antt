@@ -1,5 +1,5 @@
--- The bytes of a replay reply are below 256.
-use Rattle.std.proofs.Common.{◌≡◌, ◌<◌, ◌≤◌, ◌+◌, ℕ, Bool, true, false, cond, List, [], ◌∷◌, ◌++◌, length, All, sym, subst, arith, IsTrue, lit<, ℤ, pos}
+-- The bytes of a replay reply, and of a replay job, are below 256.
+use Rattle.std.proofs.Common.{◌≡◌, ◌<◌, ◌≤◌, ◌+◌, ℕ, ◌==◌, Bool, true, false, cond, List, [], ◌∷◌, ◌++◌, length, All, sym, subst, arith, IsTrue, lit<, ℤ, pos}
 use Rattle.std.specs.List.{flat_map, range_with_len}
 use Rattle.std.specs.Int.{w64, cast_unsigned}
 use Rattle.std.specs.Ordering.{int_eq}
@@ -8,9 +8,10 @@ use Rattle.byteorder.specs.Endian.{little_bytes}
 use Rattle.byte_format.specs.Keys.{key_bytes}
 use Rattle.child_replies.proofs.Limits as limits
 use Rattle.hash_family.specs.Setting.{Setting}
+use Rattle.job_format.specs.Job.{ReplayJob, SpellsReplay, frame_bytes, item_bytes, replay_head, setting_bytes}
+use Rattle.job_format.specs.declared.item.Item.{Item}
 use Rattle.reply_format.specs.Reply.{IsVersion, ReplayHead, ReplayReply, Replay, SpellsReply, counter_bytes, counters_bytes, dense_bytes, entries_bytes, front_bytes, head_bytes, heap_bytes, heaps_bytes, nonzero_count, row_at, row_bytes, row_count, sparse_bytes}
 use Rattle.reply_format.specs.declared.heap.Heap.{Heap}
-use Rattle.replay_jobs.specs.Reading.{is_within}
 use Rattle.solve_jobs.proofs.Bytes.{AreLow, Low, four_low, join_low, number_low, one_low, version_low}
 
 -- what each element gives is low
@@ -92,6 +93,63 @@ heap_low heap =
     (flat_low key_bytes heap.keys key_low)
 
 -- a reply's bytes
-pub spelled_low : (reply : ReplayReply) (bytes : List ℕ) → SpellsReply (Replay reply) bytes
+pub reply_low : (reply : ReplayReply) (bytes : List ℕ) → SpellsReply (Replay reply) bytes
     → All (λ byte. byte < 256) bytes
-spelled_low reply bytes spelled = ?
+reply_low reply bytes spelled =
+    let within = spelled.within.head.within in
+    let setting = reply.head.setting in
+    let levels = limits.few_levels setting.levels setting.rows setting.width setting.heap within in
+    let rows = limits.few_rows setting.levels setting.rows setting.width setting.heap within in
+    let counters = either_low (spelled.version == 1) (dense_bytes reply.counters)
+    (sparse_bytes (row_count setting) setting.width reply.counters)
+    (dense_low reply.counters) (sparse_low (row_count setting) setting.width reply.counters) in
+    let heaps = flat_low heap_bytes reply.heaps heap_low in
+    let head = head_low spelled.version reply.head spelled.known (omega (arith, levels)) (omega (arith, rows)) in
+    let behind = join_low (counters_bytes spelled.version setting reply.counters) (heaps_bytes reply.heaps)
+    counters heaps in
+    subst AreLow (sym spelled.parts)
+    (join_low (head_bytes spelled.version reply.head)
+    (counters_bytes spelled.version setting reply.counters ++ heaps_bytes reply.heaps) head behind)
+
+-- ---- a job
+
+setting_low : (setting : Setting) → setting.levels < 256 → setting.rows < 256 → AreLow (setting_bytes setting)
+setting_low setting levels rows =
+    let heap = join_low (little_bytes 2 setting.heap) (little_bytes 8 setting.seed)
+    (number_low 0 2 setting.heap) (number_low 0 8 setting.seed) in
+    let behind = little_bytes 2 setting.heap ++ little_bytes 8 setting.seed in
+    let width = join_low (little_bytes 2 setting.width) behind (number_low 0 2 setting.width) heap in
+    one_low setting.levels (setting.rows ∷ (little_bytes 2 setting.width ++ behind)) levels
+    (one_low setting.rows (little_bytes 2 setting.width ++ behind) rows width)
+
+start_low : (number : ℕ) (setting : Setting) → setting.levels < 256 → setting.rows < 256
+    → AreLow (replay_head number setting)
+start_low number setting levels rows =
+    let kind = one_low 0 (little_bytes 4 number ++ setting_bytes setting) (lit< tt)
+    (join_low (little_bytes 4 number) (setting_bytes setting) (number_low 0 4 number)
+    (setting_low setting levels rows)) in
+    four_low 0x55 0x4d 0x4a 0x42 (1 ∷ 0 ∷ (little_bytes 4 number ++ setting_bytes setting))
+    (lit< tt) (lit< tt) (lit< tt) (lit< tt)
+    (one_low 1 (0 ∷ (little_bytes 4 number ++ setting_bytes setting)) (lit< tt) kind)
+
+item_low : (item : Item) → AreLow (item_bytes item)
+item_low item =
+    join_low (key_bytes item.key) (little_bytes 4 item.weight) (key_low item.key) (number_low 0 4 item.weight)
+
+frame_low : (items : List Item) → AreLow (frame_bytes items)
+frame_low items =
+    join_low (little_bytes 2 (length items)) (flat_map item_bytes items) (number_low 0 2 (length items))
+    (flat_low item_bytes items item_low)
+
+-- a job's bytes
+pub job_low : (job : ReplayJob) (bytes : List ℕ) → SpellsReplay job bytes → All (λ byte. byte < 256) bytes
+job_low job bytes spelled =
+    let setting = job.setting in
+    let within = spelled.within.setting.within in
+    let levels = limits.few_levels setting.levels setting.rows setting.width setting.heap within in
+    let rows = limits.few_rows setting.levels setting.rows setting.width setting.heap within in
+    let frames = join_low (flat_map frame_bytes spelled.frames) (little_bytes 2 0)
+    (flat_low frame_bytes spelled.frames frame_low) (number_low 0 2 0) in
+    subst AreLow (sym spelled.parts)
+    (join_low (replay_head job.number setting) (flat_map frame_bytes spelled.frames ++ little_bytes 2 0)
+    (start_low job.number setting (omega (arith, levels)) (omega (arith, rows))) frames)

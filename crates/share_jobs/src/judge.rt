@@ -1,9 +1,8 @@
 //! Which replies answer a replay job.
-ghost use Rattle.std.specs.Prelude.{◌≡◌, ◌×◌, ◌<◌, All, IfOk, IfSome, IfNone, is_some};
+ghost use Rattle.std.specs.Prelude.{◌≡◌, ◌<◌, All, IfOk, IfSome, is_some};
 ghost use Rattle.hash_family.specs.Setting.{setting_of};
-ghost use Rattle.reply_format.specs.Reply.{Replay, SpellsReply, head_of, reply_of};
-ghost use Rattle.sketch_merge.specs.Merging.{IfReplay};
-ghost use Rattle.replay_jobs.specs.Reading.{is_good};
+ghost use Rattle.reply_format.specs.Reply.{head_of, reply_of};
+ghost use Rattle.share_jobs.specs.Reading.{IsReplyOf, is_good};
 
 use child_replies::read_reply;
 use hash_family::Params;
@@ -23,9 +22,8 @@ pub(crate) fn reply_to(
 ) -> Result<Option<Reply>, Memory>
     ensures good { IfOk result (λ found.
         is_some found ≡ is_good (head_of job (setting_of params) items weight) bytes.now) }
-    ensures spelled { IfOk result (λ found. IfSome found (λ reply. IfReplay (λ replay.
-        (replay.head ≡ head_of job (setting_of params) items weight) × SpellsReply (Replay replay) bytes.now)
-        (reply_of reply))) }
+    ensures spelled { IfOk result (λ found. IfSome found (λ reply.
+        IsReplyOf (head_of job (setting_of params) items weight) (reply_of reply) bytes.now)) }
 {
     check_bytes(bytes);
     let expect = Expect::Replay {

@@ -15,6 +15,11 @@ pub record IsReplyTo (head : ReplayHead) (bytes : List ℕ) : Type 0 where
   pub head_is : reply.head ≡ head
   pub spelled : SpellsReply (Replay reply) bytes
 
+-- this is a reply to that replay job, which bytes spell
+abbrev pub IsReplyOf : ReplayHead → Reply → List ℕ → Type 0
+IsReplyOf head (Replay reply) bytes = (reply.head ≡ head) × SpellsReply (Replay reply) bytes
+IsReplyOf head (Solve reply) bytes = ⊥
+
 -- whether the numbers of a sketch are within their limits
 abbrev pub is_within : Setting → Bool
 is_within setting = are_within setting.levels setting.rows setting.width setting.heap

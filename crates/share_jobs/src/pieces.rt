@@ -3,7 +3,7 @@ ghost use Rattle.std.specs.Prelude.{◌≡◌, ◌+◌, ◌≤◌, [], ◌∷◌
 ghost use Rattle.hash_family.specs.Setting.{setting_of};
 ghost use Rattle.job_format.specs.Job.{AreFrames, frame_bytes, frame_limit, item_limit, replay_head};
 ghost use Rattle.job_format.specs.declared.item.Item.{Item as AnItem};
-ghost use Rattle.replay_jobs.specs.Pieces.{HasPieces};
+ghost use Rattle.share_jobs.specs.Pieces.{HasPieces};
 
 use child_jobs::{write_frame, write_head};
 use hash_family::Params;

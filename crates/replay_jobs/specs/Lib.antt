@@ -1,5 +1,0 @@
-pub mod Epoch
-pub mod Pieces
-pub mod Reading
-pub mod Replays
-pub mod ReplayJobs
