@@ -3,10 +3,11 @@ use Rattle.std.proofs.Common.{◌≡◌, ◌<◌, ◌≤◌, ◌+◌, ℕ, ◌==
 use Rattle.std.specs.List.{flat_map, range_with_len}
 use Rattle.std.specs.Int.{w64, cast_unsigned}
 use Rattle.std.specs.Ordering.{int_eq}
+use Rattle.std.proofs.lemmas.Bool.Decides.{nat_tests}
 use Rattle.std.proofs.lemmas.List.Elements.{All-nil}
 use Rattle.byteorder.specs.Endian.{little_bytes}
 use Rattle.byte_format.specs.Keys.{key_bytes}
-use Rattle.child_replies.proofs.Limits as limits
+use Rattle.hash_family.specs.Limits.{are_within}
 use Rattle.hash_family.specs.Setting.{Setting}
 use Rattle.job_format.specs.Job.{ReplayJob, SpellsReplay, frame_bytes, item_bytes, replay_head, setting_bytes}
 use Rattle.job_format.specs.declared.item.Item.{Item}
@@ -20,6 +21,14 @@ flat_low f [] each = All-nil Low
 flat_low f (x ∷ xs) each = join_low (f x) (flat_map f xs) (each x) (flat_low f xs each)
 
 -- ---- the head
+
+low_levels : (setting : Setting) → IsTrue (are_within setting.levels setting.rows setting.width setting.heap)
+    → setting.levels < 256
+low_levels setting within = grind (arith, nat_tests)
+
+low_rows : (setting : Setting) → IsTrue (are_within setting.levels setting.rows setting.width setting.heap)
+    → setting.rows < 256
+low_rows setting within = grind (arith, nat_tests)
 
 front_low : (version number : ℕ) → IsVersion version → AreLow (front_bytes version 0 number)
 front_low version number known =
@@ -98,13 +107,12 @@ pub reply_low : (reply : ReplayReply) (bytes : List ℕ) → SpellsReply (Replay
 reply_low reply bytes spelled =
     let within = spelled.within.head.within in
     let setting = reply.head.setting in
-    let levels = limits.few_levels setting.levels setting.rows setting.width setting.heap within in
-    let rows = limits.few_rows setting.levels setting.rows setting.width setting.heap within in
     let counters = either_low (spelled.version == 1) (dense_bytes reply.counters)
     (sparse_bytes (row_count setting) setting.width reply.counters)
     (dense_low reply.counters) (sparse_low (row_count setting) setting.width reply.counters) in
     let heaps = flat_low heap_bytes reply.heaps heap_low in
-    let head = head_low spelled.version reply.head spelled.known (omega (arith, levels)) (omega (arith, rows)) in
+    let head = head_low spelled.version reply.head spelled.known (low_levels setting within)
+    (low_rows setting within) in
     let behind = join_low (counters_bytes spelled.version setting reply.counters) (heaps_bytes reply.heaps)
     counters heaps in
     subst AreLow (sym spelled.parts)
@@ -146,10 +154,8 @@ pub job_low : (job : ReplayJob) (bytes : List ℕ) → SpellsReplay job bytes �
 job_low job bytes spelled =
     let setting = job.setting in
     let within = spelled.within.setting.within in
-    let levels = limits.few_levels setting.levels setting.rows setting.width setting.heap within in
-    let rows = limits.few_rows setting.levels setting.rows setting.width setting.heap within in
     let frames = join_low (flat_map frame_bytes spelled.frames) (little_bytes 2 0)
     (flat_low frame_bytes spelled.frames frame_low) (number_low 0 2 0) in
     subst AreLow (sym spelled.parts)
     (join_low (replay_head job.number setting) (flat_map frame_bytes spelled.frames ++ little_bytes 2 0)
-    (start_low job.number setting (omega (arith, levels)) (omega (arith, rows))) frames)
+    (start_low job.number setting (low_levels setting within) (low_rows setting within)) frames)

@@ -1,11 +1,10 @@
 //! The job of a share.
 ghost use Rattle.std.specs.Prelude.{◌≡◌, ◌<◌, ◌≤◌, ◌^◌, All, IfOk, IfSome, Some, false, is_some, length, map, option_map, slice_get};
 ghost use Rattle.hash_family.specs.Setting.{setting_of};
-ghost use Rattle.job_format.specs.Job.{IsItem, item_limit, weight_limit, weight_of};
+ghost use Rattle.job_format.specs.Job.{IsItem, IsSetting, item_limit, weight_limit, weight_of};
 ghost use Rattle.reply_format.specs.Reply.{head_of, reply_of};
 ghost use Rattle.share_jobs.specs.Heads.{head_spelled, joined};
 ghost use Rattle.share_jobs.specs.Reading.{IsReplyOf, is_good};
-ghost use Rattle.share_jobs.specs.Share.{share_of, with_taken};
 ghost use Rattle.share_jobs.specs.Pieces.{HasPieces};
 
 use crate::judge::reply_to;
@@ -32,6 +31,8 @@ pub struct ShareJob {
 }
 
 impl ShareJob {
+    ghost use Rattle.share_jobs.specs.Share.{share_of, with_taken};
+
     /// The job of this number with these items, for which no reply was taken. It takes memory.
     pub fn new(
         alloc: Global,
@@ -41,18 +42,19 @@ impl ShareJob {
     ) -> Result<ShareJob, Memory>
         requires few { length items.now ≤ item_limit }
         requires light { weight_of items.now ≤ weight_limit }
-        requires each { All IsItem items.now }
         ensures head { IfOk result (λ job. (share_of job).head
             ≡ head_of number (setting_of params.now) (length items.now) (weight_of items.now)) }
         ensures pieces { IfOk result (λ job. HasPieces number (setting_of params.now) items.now (share_of job).pieces) }
         ensures taken { IfOk result (λ job. (share_of job).taken ≡ false) }
     {
+        check_setting(params);
+        let weight = weight_of(items);
         let pieces = pieces_of(alloc, number, params, items)?;
         Ok(ShareJob {
             params: *params,
             number,
             items: items.len() as u32,
-            weight: weight_of(items),
+            weight,
             pieces,
             is_taken: false,
         })
@@ -85,14 +87,31 @@ impl ShareJob {
     }
 }
 
-// What items weigh together.
+// The numbers of a sketch fit into their fields, as their types say.
+fn check_setting(params: &Params)
+    ensures { IsSetting (setting_of params.now) }
+{
+    let _seed = params.seed;
+}
+
+// What items weigh together. Each is within its limits, as its type says.
 fn weight_of(items: &[Item]) -> u64
     requires light { weight_of items.now ≤ weight_limit }
     ensures weight { result ≡ weight_of items.now }
+    ensures each { All IsItem items.now }
 {
     let mut sum = 0;
     for item in items {
-        sum += u64::from(item.weight);
+        sum += u64::from(checked_weight(item));
     }
     sum
+}
+
+// What an item weighs.
+fn checked_weight(item: &Item) -> u32
+    ensures weight { result ≡ item.now.weight }
+    ensures item { IsItem item.now }
+{
+    let _ = item.key.words();
+    item.weight
 }
