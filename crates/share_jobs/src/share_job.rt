@@ -48,6 +48,7 @@ impl ShareJob {
         ensures taken { IfOk result (λ job. (share_of job).taken ≡ false) }
     {
         check_setting(params);
+        check_items(items);
         let weight = weight_of(items);
         let pieces = pieces_of(alloc, number, params, items)?;
         Ok(ShareJob {
@@ -94,24 +95,29 @@ fn check_setting(params: &Params)
     let _seed = params.seed;
 }
 
-// What items weigh together. Each is within its limits, as its type says.
+// Each item is within its limits, as its type says.
+fn check_items(items: &[Item])
+    ensures { All IsItem items.now }
+{
+    for item in items {
+        check_item(item);
+    }
+}
+
+fn check_item(item: &Item)
+    ensures { IsItem item.now }
+{
+    let (_key, _weight) = (item.key.words(), item.weight);
+}
+
+// What items weigh together.
 fn weight_of(items: &[Item]) -> u64
     requires light { weight_of items.now ≤ weight_limit }
     ensures weight { result ≡ weight_of items.now }
-    ensures each { All IsItem items.now }
 {
     let mut sum = 0;
     for item in items {
-        sum += u64::from(checked_weight(item));
+        sum += u64::from(item.weight);
     }
     sum
-}
-
-// What an item weighs.
-fn checked_weight(item: &Item) -> u32
-    ensures weight { result ≡ item.now.weight }
-    ensures item { IsItem item.now }
-{
-    let _ = item.key.words();
-    item.weight
 }

@@ -23,6 +23,3 @@ loop-done-preserved c =
         (omega (arith, c.min-end.ensures)) (λ more. omega (arith, c.min-end.ensures)) c.loop-done.invariant.1
         (bytes ∙ ap (λ (piece : List ℕ). map bytes_in c.loop-done.pieces.items ++ piece ∷ []) c.in_ok-piece.ensures),
     omega (arith, size, c.min-end.ensures, c.loop-done.invariant.2))
-
-pub returns : goal.returns
-returns c = ?

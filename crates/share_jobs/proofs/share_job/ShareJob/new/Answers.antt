@@ -15,13 +15,13 @@ invariant_of-result c =
     let within : IsReplayJob (record { number = c.args.number; setting = setting; items = c.args.items.now }) = record {
       number = c.ranges.number.fits;
       setting = c.check_setting.ensures;
-      each = c.weight_of.ensures.each;
+      each = c.check_items.ensures;
       few = c.requires.few;
       light = c.requires.light;
     } in
     record {
       few = omega (arith, c.in_ok-pieces.ensures.few, c.requires.few);
-      spelled = spelled_head (record { number = c.args.number; setting = setting; items = c.args.items.now })
+      spelled = rw c.weight_of-weight.ensures.weight (spelled_head (record { number = c.args.number; setting = setting; items = c.args.items.now })
           (joined pieces)
-          (pieces_spell c.args.number setting c.args.items.now pieces within c.in_ok-pieces.ensures.pieces);
+          (pieces_spell c.args.number setting c.args.items.now pieces within c.in_ok-pieces.ensures.pieces));
     }
