@@ -1,6 +1,6 @@
 -- A reply that is added to what is stored.
-use Rattle.std.proofs.Common.{◌≡◌, ◌^◌, ℕ, ℤ, ◌+◌, ◌*◌, ◌≤◌, ◌||◌, Bool, List, length, map, ◌+ℤ◌, unsigned_abs, sym, ◌∙◌}
-use Rattle.std.proofs.Common.{ap, subst, arith}
+use Rattle.std.proofs.Common.{◌≡◌, ◌^◌, ℕ, ℤ, ◌+◌, ◌*◌, ◌≤◌, ◌||◌, Bool, List, length, map, ◌+ℤ◌, unsigned_abs, sym}
+use Rattle.std.proofs.Common.{◌∙◌, ap, subst, arith}
 use Rattle.std.specs.List.{All}
 use Rattle.std.specs.Cmp.Lexicographic.{slice_cmp}
 use Rattle.std.specs.List.Sorted.{IsStrictlySortedBy}
@@ -142,14 +142,14 @@ pub taken_stored : (setting : Setting) (counters next : List ℤ) (keys more : L
     → IsStored setting counters keys → stored_view setting counters keys dropped weight ≡ view → MayTake view reply
     → next ≡ plus counters reply.counters → more ≡ zip2 united keys (reply_keys reply)
     → mark ≡ (dropped || has_dropped reply) → IsTaken view reply setting next more mark (weight + reply.head.weight)
-taken_stored setting counters next keys more dropped mark weight view reply stored is may counters_are keys_are mark_is =
+taken_stored setting counters next keys more dropped mark weight view reply stored is may sums unions joined =
     let total : ℕ = weight + reply.head.weight in
+    let old : View = stored_view setting counters keys dropped weight in
+    let sum : List ℤ = plus counters reply.counters in
+    let all : List (List (List ℕ)) = zip2 united keys (reply_keys reply) in
     subst (λ (v : View). IsTaken v reply setting next more mark total) is
-    (subst (λ (c : List ℤ). IsTaken (stored_view setting counters keys dropped weight) reply setting c more mark total)
-    (sym counters_are)
-    (subst (λ (k : List (List (List ℕ))). IsTaken (stored_view setting counters keys dropped weight) reply setting
-    (plus counters reply.counters) k mark total) (sym keys_are)
-    (subst (λ (m : Bool). IsTaken (stored_view setting counters keys dropped weight) reply setting
-    (plus counters reply.counters) (zip2 united keys (reply_keys reply)) m total) (sym mark_is)
+    (subst (λ (c : List ℤ). IsTaken old reply setting c more mark total) (sym sums)
+    (subst (λ (k : List (List (List ℕ))). IsTaken old reply setting sum k mark total) (sym unions)
+    (subst (λ (m : Bool). IsTaken old reply setting sum all m total) (sym joined)
     (sum_taken setting counters keys dropped weight stored reply
     (subst (λ (v : View). MayTake v reply) (sym is) may)))))

@@ -4,8 +4,8 @@ use Rattle.std.proofs.Common.{take, drop, get_or, ℤ, pos, refl, sym, ◌∙◌
 use Rattle.std.specs.List.{All, flat_map, range_with_len}
 use Rattle.std.specs.Simd.Lanes.{zip2}
 use Rattle.std.proofs.Math.Nat.{mul-le-mul_left}
-use Rattle.std.proofs.lemmas.List.{drop_at, drop-drop, ext_get_or, get_or-drop, get_or-take, length-drop, length-take-le}
-use Rattle.std.proofs.lemmas.List.{nil_from_length, take-append-drop, take_at}
+use Rattle.std.proofs.lemmas.List.{drop_at, drop-drop, ext_get_or, get_or-drop, get_or-take, length-drop}
+use Rattle.std.proofs.lemmas.List.{length-take-le, nil_from_length, take-append-drop, take_at}
 use Rattle.std.proofs.lemmas.List.Elements.{All-append, All-cons, All-drop, All-head, All-nil, All-tail, All-take}
 use Rattle.std.proofs.lemmas.List.FromFn.{get_or-map-range_with_len, length-map-range_with_len}
 use Rattle.count_sketch.specs.Counters.{AllUpTo}

@@ -1,6 +1,6 @@
 -- One reply more in an empty place.
 use Rattle.std.proofs.Common.{◌≡◌, ℕ, ◌+◌, ◌<◌, ◌||◌, zero, suc, Bool, true, false, List, [], ◌∷◌, fold, map, length}
-use Rattle.std.proofs.Common.{get_or, set, Option, None, Some, ℤ, pos, ◌+ℤ◌, refl, sym, ◌∙◌, ap, subst, arith}
+use Rattle.std.proofs.Common.{get_or, set, Option, None, Some, ℤ, pos, ◌+ℤ◌, refl, sym, ◌∙◌, ap, arith}
 use Rattle.std.specs.List.{flat_map, list_any, range_with_len}
 use Rattle.std.specs.List.Sorted.{IsStrictlySortedBy}
 use Rattle.std.specs.Cmp.Lexicographic.{slice_cmp}
@@ -81,7 +81,8 @@ unfolding named_keys IsStrictlySortedBy
 ascending-named replies level = ascending-united [] (flat_map (λ reply. (heap_in level reply).keys) replies) tt
 
 any-named : (q : List ℕ) (replies : List ReplayReply) (level : ℕ)
-    → list_any (same q) (named_keys replies level) ≡ list_any (λ reply. list_any (same q) (heap_in level reply).keys) replies
+    → list_any (same q) (named_keys replies level)
+    ≡ list_any (λ reply. list_any (same q) (heap_in level reply).keys) replies
 unfolding named_keys
 any-named q replies level =
     any-united q [] (flat_map (λ reply. (heap_in level reply).keys) replies)

@@ -1,5 +1,6 @@
 //! Merged sketches.
-ghost use Rattle.std.specs.Prelude.{◌≡◌, ◌≤◌, ◌+◌, ◌*◌, ◌^◌, ℕ, ℤ, List, [], length, map, All, IfOk, OnErr, unsigned_abs};
+ghost use Rattle.std.specs.Prelude.{◌≡◌, ◌≤◌, ◌+◌, ◌*◌, ◌^◌, ℕ, ℤ, List, [], length, map, All, IfOk, OnErr};
+ghost use Rattle.std.specs.Prelude.{unsigned_abs};
 ghost use Rattle.std.specs.List.{flat_map};
 ghost use Rattle.std.specs.Cmp.Lexicographic.{slice_cmp};
 ghost use Rattle.std.specs.Ordering.{nat_cmp};
@@ -113,7 +114,8 @@ impl Merged {
     /// before anything changes: where it is refused, all is as before.
     pub fn take(&mut self, alloc: Global, reply: &Reply) -> Result<(), Memory>
         requires reply { IfReplay (MayTake self.old) (reply_of reply.now) }
-        ensures taken { IfOk result (λ _. IfReplay (λ reply. self.new ≡ with_reply self.old reply) (reply_of reply.now)) }
+        ensures taken { IfOk result (λ _.
+            IfReplay (λ reply. self.new ≡ with_reply self.old reply) (reply_of reply.now)) }
         ensures small { IfOk result (λ _. All (AllUpTo self.new.weight) self.new.counters) }
         ensures few { IfOk result (λ _. (n : ℕ)
             → HaveUpTo n self.old.keys → HaveUpTo (n + self.old.setting.heap) self.new.keys) }

@@ -1,9 +1,8 @@
-use Rattle.std.proofs.Common.{◌≡◌, ◌^◌, ℕ, ℤ, ◌+◌, ◌*◌, ◌<◌, ◌≤◌, [], List, length, map, get_or, take, drop, sym, ◌∙◌}
+use Rattle.std.proofs.Common.{◌≡◌, ◌^◌, ℕ, ℤ, ◌+◌, ◌*◌, ◌<◌, ◌≤◌, [], length, get_or, take, drop, sym, ◌∙◌}
 use Rattle.std.proofs.Common.{ap, subst, arith, unsigned_abs}
 use Rattle.std.proofs.lemmas.List.{length-drop, length-take-le}
 use Rattle.std.proofs.lemmas.List.Elements.{All-drop, All-take}
 use Rattle.count_sketch.specs.Counters.{AllUpTo}
-use Rattle.sketch_merge.specs.Levels.{levels_of}
 use Rattle.sketch_merge.specs.Merged.{View, counters_at}
 use Rattle.sketch_merge.proofs.LevelLists.{level-levels_of, level_room}
 use Rattle.sketch_merge.proofs.Views.{few_counters}

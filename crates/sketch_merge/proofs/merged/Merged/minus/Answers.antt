@@ -1,12 +1,12 @@
-use Rattle.std.proofs.Common.{◌≡◌, ◌^◌, ℕ, ℤ, ◌+◌, ◌*◌, ◌||◌, true, false, Bool, List, Vec, Global, length, map, ◌-ℤ◌}
-use Rattle.std.proofs.Common.{sym, ◌∙◌, ap, subst, arith, rules}
+use Rattle.std.proofs.Common.{◌≡◌, ◌^◌, ℕ, ℤ, ◌+◌, ◌*◌, ◌||◌, true, false, Bool, List, Vec, Global, map}
+use Rattle.std.proofs.Common.{sym, ◌∙◌, ap, subst}
 use Rattle.std.specs.List.{All}
 use Rattle.std.specs.Simd.Lanes.{zip2}
 use Rattle.hash_family.specs.Setting.{Setting, setting_of}
 use Rattle.count_sketch.specs.Counters.{AllUpTo, minus}
 use Rattle.sketch_merge.specs.Merged.{HaveUpTo, View, difference, united}
 use Rattle.sketch_merge.specs.Stored.{IsStored, stored_view}
-use Rattle.sketch_merge.proofs.LevelLists.{flat_bound-levels_of, zip2-levels_of}
+use Rattle.sketch_merge.proofs.LevelLists.{flat_bound-levels_of}
 use Rattle.sketch_merge.proofs.Views.{HaveUpTo-united, IsStored-difference, difference_view}
 use Rattle.sketch_merge.proofs.merged.Merged.minus.Goals as goal
 use Rattle.sketch_merge.proofs.merged.Merged.minus.Goals.{then-self, else-self}
@@ -77,10 +77,11 @@ returns-clause-value c =
     let old = c.self.inside in
     let other = c.other.inside in
     let setting : Setting = setting_of old.params in
+    let first : View = stored_view setting old.counters.items (map view old.keys.items) old.dropped old.weight in
     (λ i. stored_view setting (counters_are c i) (keys_are c i) (mark_is c i) old.weight)
     ∙ difference_view setting old.counters.items other.counters.items (map view old.keys.items)
     (map view other.keys.items) old.dropped other.dropped old.weight other.weight
-    ∙ ap (λ (s : Setting). difference (stored_view setting old.counters.items (map view old.keys.items) old.dropped old.weight)
+    ∙ ap (λ (s : Setting). difference first
     (stored_view s other.counters.items (map view other.keys.items) other.dropped other.weight)) (sym (setting_is c))
     ∙ (λ i. difference (c.self.view_is i) (c.other.view_is i))
 

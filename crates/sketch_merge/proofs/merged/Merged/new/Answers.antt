@@ -1,9 +1,5 @@
-use Rattle.std.proofs.Common.{◌≡◌, ◌^◌, ◌+◌, ◌*◌, ◌≤◌, [], ℤ, ℕ, List, Vec, Global, length, map, pos, replicate, sym, ◌∙◌}
-use Rattle.std.proofs.Common.{ap, subst, arith, false, unsigned_abs}
-use Rattle.std.specs.Cmp.Lexicographic.{slice_cmp}
-use Rattle.std.specs.List.{All}
-use Rattle.std.specs.List.Sorted.{IsStrictlySortedBy}
-use Rattle.std.specs.Ordering.{nat_cmp}
+use Rattle.std.proofs.Common.{◌≡◌, ◌+◌, [], ℤ, ℕ, List, Vec, Global, map, pos, replicate, sym, ◌∙◌}
+use Rattle.std.proofs.Common.{subst, false}
 use Rattle.hash_family.specs.Setting.{setting_of}
 use Rattle.sketch_merge.specs.Stored.{IsStored, stored_view}
 use Rattle.sketch_merge.proofs.Replies.{all_size, merged_nothing}
