@@ -1,5 +1,6 @@
 -- What replies say together: the sums of their counters, the keys that they name, and their marks.
-use Rattle.std.specs.Prelude.{◌≡◌, ℕ, ◌+◌, ◌*◌, ◌≤◌, ◌^◌, ◌||◌, Bool, List, [], map, All, Option, false, slice_index_or, ℤ, pos}
+use Rattle.std.specs.Prelude.{◌≡◌, ℕ, ◌+◌, ◌*◌, ◌≤◌, ◌^◌, ◌||◌, Bool, false, List, [], map, All, Option, slice_index_or}
+use Rattle.std.specs.Prelude.{ℤ, pos}
 use Rattle.std.specs.List.{flat_map, list_any, range_with_len}
 use Rattle.std.specs.Option.{option_to_list}
 use Rattle.std.specs.Simd.Lanes.{zip2}
@@ -25,7 +26,8 @@ heap_in level reply = slice_index_or reply.heaps level (record { dropped = false
 -- the sums of the counters of a level
 unfoldable pub merged_counters : Setting → List ReplayReply → ℕ → List ℤ
 merged_counters setting replies level =
-    map (λ place. int_sum_by (counter_in place) replies) (range_with_len (level * level_size setting) (level_size setting))
+    map (λ place. int_sum_by (counter_in place) replies)
+    (range_with_len (level * level_size setting) (level_size setting))
 
 -- the keys that some reply names at a level, in ascending order
 unfoldable pub named_keys : List ReplayReply → ℕ → List (List ℕ)
