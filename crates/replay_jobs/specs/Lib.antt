@@ -1,0 +1,5 @@
+pub mod Epochs
+pub mod Grouped
+pub mod Replays
+pub mod ReplayJobs
+pub mod ReplayLaws
