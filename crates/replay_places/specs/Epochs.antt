@@ -1,5 +1,5 @@
--- The shares of all epochs, what was merged of their replies, and which lists of places stand behind that.
-use Rattle.std.specs.Prelude.{◌≡◌, ℕ, ◌+◌, ◌*◌, ◌≤◌, ◌<◌, ◌^◌, true, false, List, [], length, take, drop, sum_by, count_by, All, Bool, Option, None, Some, Result, Ok, Err, slice_index_or, slice_set, if◌then◌else◌}
+-- The shares of all epochs, what was merged of their replies, and which lists of places stand for that.
+use Rattle.std.specs.Prelude.{◌≡◌, ℕ, ◌+◌, ◌*◌, ◌≤◌, ◌<◌, ◌^◌, true, false, List, [], length, take, drop, sum_by, All, Bool, Option, None, Some, Result, Ok, Err, slice_index_or, slice_set, if◌then◌else◌}
 use Rattle.hash_family.specs.Setting.{Setting}
 use Rattle.count_sketch.specs.Counters.{AllUpTo}
 use Rattle.mon_io.specs.declared.fault.Memory.{Memory}
@@ -35,6 +35,10 @@ segment switches epoch xs = take switches (drop (epoch * switches) xs)
 abbrev pub open_weight : Share → ℕ
 open_weight share = if share.taken then 0 else share.head.weight
 
+-- how many replies a share has taken
+abbrev pub taken_number : Share → ℕ
+taken_number share = if share.taken then 1 else 0
+
 -- the most keys that a reply names at a level, and those of an epoch
 abbrev pub heap_limit : ℕ
 heap_limit = 1024
@@ -48,7 +52,7 @@ pub record IsEpoch (setting : Setting) (shares : List Share) (merged : View) : T
   pub setting_is : merged.setting ≡ setting
   pub small : All (AllUpTo merged.weight) merged.counters
   pub light : merged.weight + sum_by open_weight shares ≤ 2 ^ 44
-  pub keys : HaveUpTo (heap_limit * count_by (λ share. share.taken) shares) merged.keys
+  pub keys : HaveUpTo (heap_limit * sum_by taken_number shares) merged.keys
   pub fresh : ((switch : ℕ) → switch < length shares → (share_at shares switch).taken ≡ false)
       → merged ≡ merged_view setting 0 []
 

@@ -1,5 +1,0 @@
-pub mod Epochs
-pub mod Grouped
-pub mod Replays
-pub mod ReplayJobs
-pub mod ReplayLaws
