@@ -60,6 +60,8 @@ impl Merged {
     /// counters and for a list of keys a level.
     pub fn new(alloc: Global, params: Params) -> Result<Merged, Memory>
         ensures value { IfOk result (λ merged. merged ≡ merged_view (setting_of params) 0 []) }
+        ensures small { IfOk result (λ merged. All (AllUpTo merged.weight) merged.counters) }
+        ensures few { IfOk result (λ merged. HaveUpTo 0 merged.keys) }
     {
         let levels = usize::from(params.levels) + 1;
         let size = usize::from(params.rows) * usize::from(params.width);
