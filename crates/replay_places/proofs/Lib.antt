@@ -1,3 +1,5 @@
 pub mod Segments
 pub mod Places
 pub mod Stands
+pub mod Starts
+pub mod Fits

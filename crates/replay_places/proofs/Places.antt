@@ -30,7 +30,7 @@ weights_taken replies k reply within empty =
     let before = weights_of replies in
     let sums = sum_by-set place_weight replies k (Some reply) None within in
     let none : place_weight (get_or replies k None) ≡ 0 = ap place_weight empty in
-    let one : place_weight (Some reply) ≡ reply.head.weight = refl in
+    let one : place_weight (Some reply) ≡ reply.head.weight = omega arith in
     omega (arith, after, before, sums, none, one)
 
 -- it is merged
@@ -40,7 +40,7 @@ pub view_taken : (setting : Setting) (replies : List (Option ReplayReply)) (k : 
 view_taken setting replies k reply within empty proper same =
     taken setting replies k reply within empty proper same (weights (present replies))
     ∙ ap (λ (n : ℕ). merged_view setting n (present (slice_set replies k (Some reply))))
-      (sym (weights_taken replies k reply within empty))
+    (sym (weights_taken replies k reply within empty))
 
 -- where each place is empty, nothing was merged
 pub none_present : (replies : List (Option ReplayReply)) → ((k : ℕ) → k < length replies → get_or replies k None ≡ None)

@@ -47,7 +47,7 @@ module _ (setting : Setting) (switches epoch switch : ℕ) (bytes : List ℕ) (o
     where
       place : (j : ℕ) → j < length old → (j ≡ job) ⊎ ((j ≡ job) → ⊥)
           → IsPlace (share_at new j) (get_or (slice_set before.replies job (Some took.reply)) j None)
-              (get_or (slice_set places job (Some bytes)) j None)
+          (get_or (slice_set places job (Some bytes)) j None)
       place j under (inl here) =
           let share : share_at new j ≡ with_taken (share_at old job) =
           ap (λ (shares : List Share). share_at shares j) took.shares
@@ -79,7 +79,7 @@ module _ (setting : Setting) (switches epoch switch : ℕ) (bytes : List ℕ) (o
           let empty : get_or part switch None ≡ None =
           segment_at switches epoch switch before.replies None within
           ∙ empty_place (share_at old job) (get_or before.replies job None) (get_or places job None) free
-            (before.each job known) in
+          (before.each job known) in
           let setting_is : took.reply.head.setting ≡ setting =
           ap (λ h. h.setting) took.head_is ∙ same in
           ap (λ (views : List View). view_at views e) took.views
@@ -94,4 +94,4 @@ module _ (setting : Setting) (switches epoch switch : ℕ) (bytes : List ℕ) (o
           ∙ get_or-set_other merged epoch e (with_reply (view_at merged epoch) took.reply) no_view other
           ∙ before.views e under
           ∙ ap (view_of setting)
-            (sym (segment_other switches epoch e switch before.replies (Some took.reply) within other))
+          (sym (segment_other switches epoch e switch before.replies (Some took.reply) within other))
