@@ -32,7 +32,7 @@ module _ (setting : Setting) (shares : List Share) (switch : ℕ) (share : Share
       → ((n : ℕ) → HaveUpTo n before.keys → HaveUpTo (n + heap_limit) view.keys)
       → IsEpoch setting shares before → IsEpoch setting (slice_set shares switch (with_taken share)) view
   epoch_on within here free same small weighs grown fit =
-      let open = sum_by-set open_weight shares switch (with_taken share) no_share within in
+      let opens = sum_by-set open_weight shares switch (with_taken share) no_share within in
       let was : open_weight (get_or shares switch no_share) ≡ share.head.weight =
       ap open_weight here ∙ opened share free in
       let count = sum_by-set taken_number shares switch (with_taken share) no_share within in
@@ -42,7 +42,7 @@ module _ (setting : Setting) (shares : List Share) (switch : ℕ) (share : Share
       record {
         setting_is = same;
         small = small;
-        light = omega (arith, open, was, weighs, fit.light);
+        light = omega (arith, opens, was, weighs, fit.light);
         keys = few_more (heap_limit * sum_by taken_number shares + heap_limit)
             (heap_limit * sum_by taken_number (slice_set shares switch (with_taken share))) view.keys
             (omega (arith, more)) (grown (heap_limit * sum_by taken_number shares) fit.keys);

@@ -1,6 +1,6 @@
 -- Shares that have taken no reply stand for the list of empty places.
-use Rattle.std.proofs.Common.{◌≡◌, ℕ, ◌+◌, ◌*◌, ◌<◌, false, List, Option, None, length, length-replicate, get_or, replicate, refl, sym, ◌∙◌, ap, arith}
-use Rattle.std.proofs.lemmas.List.{get_or-replicate}
+use Rattle.std.proofs.Common.{◌≡◌, ℕ, ◌+◌, ◌*◌, ◌<◌, zero, suc, false, List, Option, None, length, get_or, replicate, refl, sym, ◌∙◌, ap, arith}
+use Rattle.std.proofs.lemmas.List.{get_or-replicate, length-replicate}
 use Rattle.hash_family.specs.Setting.{Setting}
 use Rattle.reply_format.specs.Reply.{ReplayReply}
 use Rattle.share_jobs.specs.Share.{Share}
@@ -8,6 +8,14 @@ use Rattle.sketch_merge.specs.Merged.{View}
 use Rattle.replay_places.specs.Epochs.{AreEpochs, IsPlace, StandsFor, no_share, segment, share_at}
 use Rattle.replay_places.proofs.Places.{none_viewed}
 use Rattle.replay_places.proofs.Segments.{segment_at, segment_length}
+
+abbrev none_at : Option ReplayReply
+none_at = None
+
+at_none : (n k : ℕ) → get_or (replicate n none_at) k None ≡ None
+at_none zero k = refl
+at_none (suc n) zero = refl
+at_none (suc n) (suc k) = at_none n k
 
 pub none_stands : (setting : Setting) (switches : ℕ) (shares : List Share) (merged : List View)
     → AreEpochs setting switches shares merged → ((job : ℕ) → (share_at shares job).taken ≡ false)
@@ -20,8 +28,9 @@ none_stands setting switches shares merged fit fresh =
       places_number = length-replicate (length shares) None;
       each = λ job within.
           let reply : get_or none job None ≡ None = get_or-replicate (length shares) job None None within in
-          let place : get_or (replicate (length shares) (None {A = List ℕ})) job None ≡ None =
-          get_or-replicate (length shares) job None None within in
+          let empty : Option (List ℕ) = None in
+          let place : get_or (replicate (length shares) empty) job None ≡ None =
+          get_or-replicate (length shares) job empty None within in
           rw reply (rw place (fresh job));
       views = λ epoch within.
           let part = segment switches epoch none in
@@ -33,8 +42,5 @@ none_stands setting switches shares merged fit fresh =
           ∙ fresh (epoch * switches + switch))
           ∙ sym (none_viewed setting part (λ switch inside.
             segment_at switches epoch switch none None (omega (arith, sized))
-            ∙ at (epoch * switches + switch)));
+            ∙ at_none (length shares) (epoch * switches + switch)));
     }
-  where
-    at : (k : ℕ) → get_or (replicate (length shares) (None {A = ReplayReply})) k None ≡ None
-    at k = grind
