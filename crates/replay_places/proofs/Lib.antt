@@ -3,3 +3,4 @@ pub mod Places
 pub mod Stands
 pub mod Starts
 pub mod Fits
+pub mod Took
