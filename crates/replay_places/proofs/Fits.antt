@@ -14,13 +14,13 @@ use Rattle.sketch_merge.specs.Merging.{with_reply}
 use Rattle.replay_places.specs.Epochs.{AreEpochs, IsEpoch, TookShare, heap_limit, no_share, no_view, open_weight, segment, share_at, taken_number, view_at}
 use Rattle.replay_places.proofs.Segments.{segment_at, segment_length, segment_other, segment_set}
 
-few_more : (n m : ℕ) (keys : List (List (List ℕ))) → n ≤ m → HaveUpTo n keys → HaveUpTo m keys
+pub few_more : (n m : ℕ) (keys : List (List (List ℕ))) → n ≤ m → HaveUpTo n keys → HaveUpTo m keys
 few_more n m keys le few = record { each = λ k d within. up (few.each k d within) }
   where
     up : {x : ℕ} → x ≤ n → x ≤ m
     up h = omega (arith, le, h)
 
-small_heap : (setting : Setting) → IsTrue (are_within setting.levels setting.rows setting.width setting.heap)
+pub small_heap : (setting : Setting) → IsTrue (are_within setting.levels setting.rows setting.width setting.heap)
     → setting.heap ≤ heap_limit
 small_heap setting within = grind (arith, nat_tests)
 

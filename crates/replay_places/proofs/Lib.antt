@@ -4,3 +4,4 @@ pub mod Stands
 pub mod Starts
 pub mod Fits
 pub mod Took
+pub mod Numbered
