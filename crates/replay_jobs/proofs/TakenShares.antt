@@ -1,6 +1,6 @@
 -- A reply taken for a share.
-use Rattle.std.proofs.Common.{◌≡◌, ℕ, ◌+◌, ◌*◌, ◌/◌, ◌%◌, ◌<◌, ◌≤◌, ◌^◌, zero, suc, true, false, List, [], ◌∷◌, length, get_or, map, refl, sym, ◌∙◌, ap, subst, arith}
-use Rattle.std.specs.Prelude.{slice_set, sum_by}
+use Rattle.std.proofs.Common.{◌≡◌, ℕ, ◌+◌, ◌*◌, ◌/◌, ◌%◌, ◌<◌, ◌≤◌, ◌^◌, zero, suc, true, false, List, [], ◌∷◌, Option, Some, length, get_or, map, refl, sym, ◌∙◌, ap, subst, arith}
+use Rattle.std.specs.Prelude.{IfSome, slice_set, sum_by}
 use Rattle.std.proofs.Math.Nat.{mod-lt}
 use Rattle.std.proofs.lemmas.List.{get_or_default, map-set}
 use Rattle.std.proofs.lemmas.List.Sums.{get_or-le-sum_by}
@@ -84,3 +84,7 @@ took_reply epoch job bytes old new merged after view (Replay reply) of shares vi
   views = views ∙ ap (slice_set merged epoch) is;
 }
 took_reply epoch job bytes old new merged after view (Solve reply) of shares views is = absurd of
+
+-- what holds of a value that is there
+pub holds_some : {X : Type 0} (P : X → Type 0) (found : Option X) (x : X) → found ≡ Some x → IfSome found P → P x
+holds_some P found x is all = subst (λ o. IfSome o P) is all

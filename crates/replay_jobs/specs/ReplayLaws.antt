@@ -1,6 +1,7 @@
 -- The laws of the replay jobs of a placement.
-use Rattle.std.proofs.Common.{◌≡◌, ◌<◌, ◌^◌, ℕ, zero, suc, Bool, true, false, List, [], ◌∷◌, None, length, length-map, map, replicate, refl, sym, ap, subst, arith, lit<}
+use Rattle.std.proofs.Common.{◌≡◌, ◌<◌, ◌^◌, ℕ, zero, suc, Bool, true, false, List, [], ◌∷◌, None, length, map, replicate, refl, sym, ap, subst, arith, lit<}
 use Rattle.std.specs.Prelude.{nat_lt, if◌then◌else◌}
+use Rattle.std.proofs.lemmas.List.{length-map}
 use Rattle.hash_family.specs.Setting.{setting_of}
 use Rattle.replay_places.proofs.Starts.{none_stands}
 use Rattle.replay_places.specs.Epochs.{share_at}
@@ -16,7 +17,7 @@ replay_starts s fresh = none_stands (setting_of s.params) s.switches (shares_in 
 few_pieces : (shares : List ShareJob) (job : ℕ) → length (share_at (map share_of shares) job).pieces < 2 ^ 32
 few_pieces [] job = lit< tt
 few_pieces (share ∷ shares) zero =
-    subst (λ (n : ℕ). n < 2 ^ 32) (sym (length-map (λ piece. piece.items) share.pieces.items)) share.few
+    subst (λ (n : ℕ). n < 2 ^ 32) (sym (length-map share.pieces.items (λ piece. piece.items))) share.few
 few_pieces (share ∷ shares) (suc job) = few_pieces shares job
 
 few_either : (b : Bool) (some other : List (List ℕ)) → length some < 2 ^ 32 → length other < 2 ^ 32
