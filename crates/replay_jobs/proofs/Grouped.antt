@@ -1,7 +1,7 @@
 -- The items of a share, and lists that grow.
 use Rattle.std.proofs.Common.{◌≡◌, ◌⊎◌, ℕ, ◌+◌, ◌<◌, ◌≤◌, zero, suc, Bool, true, false, cond, List, [], ◌∷◌, ◌++◌, length, get_or, map, take, refl, sym, ◌∙◌, ap, subst, arith, inl, inr}
 use Rattle.std.specs.Prelude.{filter, sum_by}
-use Rattle.std.proofs.lemmas.List.{length-map, map-append}
+use Rattle.std.proofs.lemmas.List.{append-nil}
 use Rattle.std.proofs.lemmas.List.Sums.{sum_by-cons}
 use Rattle.flow_keys.specs.declared.routed.Routed.{Routed}
 use Rattle.job_format.specs.Job.{weight_of}
@@ -25,56 +25,44 @@ module _ (placement : List ℕ) (epoch switch : ℕ) where
   unfolding share
   share_cons packet rest = chosen (of_share packet) packet [] rest refl
 
-  pub share_few : (routed : List Routed) → length (share placement epoch switch routed) ≤ length routed
-  share_few [] = none
-    where
-      none : length (share placement epoch switch []) ≤ 0
-      unfolding share
-      none = omega arith
-  share_few (packet ∷ rest) = subst (λ (items : List Item). length items ≤ suc (length rest))
-      (sym (share_cons packet rest)) (few (of_share packet))
-    where
-      few : (b : Bool)
-          → length (cond b (job_item packet ∷ []) [] ++ share placement epoch switch rest) ≤ suc (length rest)
-      few true = omega (arith, share_few rest)
-      few false = omega (arith, share_few rest)
-
-  pub share_light : (routed : List Routed) → weight_of (share placement epoch switch routed) ≤ weight_of_routed routed
-  share_light [] = none
-    where
-      none : weight_of (share placement epoch switch []) ≤ 0
-      unfolding share
-      none = omega arith
-  share_light (packet ∷ rest) = subst (λ (items : List Item). weight_of items ≤ weight_of_routed (packet ∷ rest))
-      (sym (share_cons packet rest)) (light (of_share packet))
-    where
-      whole : weight_of_routed (packet ∷ rest) ≡ packet.weight + weight_of_routed rest
-      whole = sum_by-cons (λ (p : Routed). p.weight) packet rest
-
-      light : (b : Bool) → weight_of (cond b (job_item packet ∷ []) [] ++ share placement epoch switch rest)
-          ≤ weight_of_routed (packet ∷ rest)
-      light true =
-          let one = sum_by-cons (λ (item : Item). item.weight) (job_item packet) (share placement epoch switch rest) in
-          omega (arith, one, whole, share_light rest)
-      light false = omega (arith, whole, share_light rest)
-
   pub share_none : share placement epoch switch [] ≡ []
   unfolding share
   share_none = refl
 
+  pub share_few : (routed : List Routed) → length (share placement epoch switch routed) ≤ length routed
+  share_few [] = subst (λ (items : List Item). length items ≤ 0) (sym share_none) (omega arith)
+  share_few (packet ∷ rest) = subst (λ (items : List Item). length items ≤ suc (length rest))
+      (sym (share_cons packet rest)) (few (of_share packet) (share_few rest))
+    where
+      few : (b : Bool) → length (share placement epoch switch rest) ≤ length rest
+          → length (cond b (job_item packet ∷ []) [] ++ share placement epoch switch rest) ≤ suc (length rest)
+      few true less = omega (arith, less)
+      few false less = omega (arith, less)
+
+  pub share_light : (routed : List Routed) → weight_of (share placement epoch switch routed) ≤ weight_of_routed routed
+  share_light [] = subst (λ (items : List Item). weight_of items ≤ 0) (sym share_none) (omega arith)
+  share_light (packet ∷ rest) = subst (λ (items : List Item). weight_of items ≤ weight_of_routed (packet ∷ rest))
+      (sym (share_cons packet rest)) (light (of_share packet) (share_light rest))
+    where
+      whole : weight_of_routed (packet ∷ rest) ≡ packet.weight + weight_of_routed rest
+      whole = sum_by-cons (λ (p : Routed). p.weight) packet rest
+
+      light : (b : Bool) → weight_of (share placement epoch switch rest) ≤ weight_of_routed rest
+          → weight_of (cond b (job_item packet ∷ []) [] ++ share placement epoch switch rest)
+          ≤ weight_of_routed (packet ∷ rest)
+      light true less =
+          let one = sum_by-cons (λ (item : Item). item.weight) (job_item packet) (share placement epoch switch rest) in
+          omega (arith, one, whole, less)
+      light false less = omega (arith, whole, less)
+
   -- behind a packet, and behind one that is of the share
   pub share_snoc : (front : List Routed) (packet : Routed) → share placement epoch switch (front ++ packet ∷ [])
       ≡ share placement epoch switch front ++ cond (of_share packet) (job_item packet ∷ []) []
-  share_snoc [] packet = share_cons packet [] ∙ last
-    where
-      last : cond (of_share packet) (job_item packet ∷ []) [] ++ share placement epoch switch []
-          ≡ share placement epoch switch [] ++ cond (of_share packet) (job_item packet ∷ []) []
-      unfolding share
-      last = either (of_share packet)
-        where
-          either : (b : Bool) → cond b (job_item packet ∷ []) [] ++ [] ≡ cond b (job_item packet ∷ []) []
-          either true = refl
-          either false = refl
+  share_snoc [] packet =
+      share_cons packet []
+      ∙ ap (λ (items : List Item). cond (of_share packet) (job_item packet ∷ []) [] ++ items) share_none
+      ∙ append-nil (cond (of_share packet) (job_item packet ∷ []) [])
+      ∙ ap (λ (items : List Item). items ++ cond (of_share packet) (job_item packet ∷ []) []) (sym share_none)
   share_snoc (first ∷ front) packet =
       share_cons first (front ++ packet ∷ [])
       ∙ ap (λ (items : List Item). cond (of_share first) (job_item first ∷ []) [] ++ items) (share_snoc front packet)

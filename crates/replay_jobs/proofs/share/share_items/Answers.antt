@@ -1,5 +1,5 @@
-use Rattle.std.proofs.Common.{◌≡◌, ◌+◌, ◌++◌, ◌∷◌, ◌≤◌, Bool, true, cond, List, [], length, take, sym, ◌∙◌, ap, subst, rules, arith}
-use Rattle.std.proofs.lemmas.List.{take_all, take_more}
+use Rattle.std.proofs.Common.{◌≡◌, ◌+◌, ◌++◌, ◌∷◌, ◌≤◌, Bool, true, false, cond, List, Vec, Global, [], length, take, sym, ◌∙◌, ap, subst, rules, arith}
+use Rattle.std.proofs.lemmas.List.{append-nil, take_all, take_more}
 use Rattle.flow_keys.specs.declared.routed.Routed.{Routed}
 use Rattle.job_format.specs.Job.{weight_of}
 use Rattle.job_format.specs.declared.item.Item.{Item}
@@ -28,14 +28,26 @@ loop-packet-preserved c =
       | then-is_shared+else-is_err w ↦
           let yes : is_shared c.args.placement.now c.args.epoch c.args.switch packet ≡ true =
           sym c.is_shared.ensures ∙ w.if-is_shared.true in
-          let grown : c.if-is_shared.items.items ≡ c.loop-packet.items.items ++ job_item packet ∷ [] = ? in
-          grown ∙ ap (λ (items : List Item). items ++ job_item packet ∷ []) c.loop-packet.invariant
+          let grown : w.push.new.self.items ≡ c.loop-packet.items.items ++ job_item packet ∷ [] = search rules in
+          ap (λ (v : Vec Item Global). v.items) w.items-is ∙ grown ∙ ap (λ (items : List Item). items ++ job_item packet ∷ []) c.loop-packet.invariant
           ∙ sym (next ∙ ap chosen yes)
-      | else-is_shared w ↦ ?
+      | else-is_shared w ↦
+          let no : is_shared c.args.placement.now c.args.epoch c.args.switch packet ≡ false =
+          sym c.is_shared.ensures ∙ w.if-is_shared.false in
+          ap (λ (v : Vec Item Global). v.items) w.items-is ∙ c.loop-packet.invariant
+          ∙ sym (append-nil (of (take i routed))) ∙ sym (next ∙ ap chosen no)
     ]
 
 pub returns-clause-few : goal.returns-clause-few
-returns-clause-few c = ?
+returns-clause-few c =
+    subst (λ (items : List Item). length items ≤ length c.args.routed.now)
+    (sym (c.loop-packet.invariant ∙ ap (share c.args.placement.now c.args.epoch c.args.switch)
+    (take_all c.loop-packet.packet-index c.args.routed.now (omega (arith, c.loop-packet-test.false)))))
+    (share_few c.args.placement.now c.args.epoch c.args.switch c.args.routed.now)
 
 pub returns-clause-light : goal.returns-clause-light
-returns-clause-light c = ?
+returns-clause-light c =
+    subst (λ (items : List Item). weight_of items ≤ weight_of_routed c.args.routed.now)
+    (sym (c.loop-packet.invariant ∙ ap (share c.args.placement.now c.args.epoch c.args.switch)
+    (take_all c.loop-packet.packet-index c.args.routed.now (omega (arith, c.loop-packet-test.false)))))
+    (share_light c.args.placement.now c.args.epoch c.args.switch c.args.routed.now)
