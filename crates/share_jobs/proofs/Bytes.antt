@@ -1,5 +1,5 @@
 -- The bytes of a replay reply, and of a replay job, are below 256.
-use Rattle.std.proofs.Common.{◌≡◌, ◌<◌, ◌≤◌, ◌+◌, ℕ, ◌==◌, Bool, true, false, cond, List, [], ◌∷◌, ◌++◌, length, All, sym, subst, arith, IsTrue, lit<, ℤ, pos}
+use Rattle.std.proofs.Common.{◌<◌, ◌+◌, ℕ, ◌==◌, Bool, true, false, cond, List, [], ◌∷◌, ◌++◌, length, All, sym, subst, arith, IsTrue, lit<, ℤ, pos}
 use Rattle.std.specs.List.{flat_map, range_with_len}
 use Rattle.std.specs.Int.{w64, cast_unsigned}
 use Rattle.std.specs.Ordering.{int_eq}

@@ -55,7 +55,7 @@ added_more old now next items done end left some within few whole before is =
       added = is ∙ ap (λ (front : List (List ℕ)). front ++ frame_bytes frame ∷ []) before.added
           ∙ append_assoc old (map frame_bytes before.frames) (frame_bytes frame ∷ [])
           ∙ ap (λ (pieces : List (List ℕ)). old ++ pieces)
-            (sym (map-append frame_bytes before.frames (frame ∷ [])));
+          (sym (map-append frame_bytes before.frames (frame ∷ [])));
     }
 
 -- all items are cut

@@ -1,16 +1,13 @@
 -- The pieces of a replay job spell it.
-use Rattle.std.proofs.Common.{◌≡◌, ◌<◌, ◌++◌, ℕ, Bool, true, false, List, [], ◌∷◌, All, Option, None, Some, Result, Ok, Err, map, refl, sym, ◌∙◌, ap, append_assoc}
+use Rattle.std.proofs.Common.{◌≡◌, ◌++◌, ℕ, Bool, true, false, List, [], ◌∷◌, Some, Ok, map, refl, sym, ◌∙◌, ap, append_assoc}
 use Rattle.std.specs.List.{flat_map}
 use Rattle.std.proofs.lemmas.Bool.{true≢false}
-use Rattle.std.proofs.lemmas.Grind.{flat_map-append}
 use Rattle.std.proofs.lemmas.List.{append-nil}
 use Rattle.byteorder.specs.Endian.{little_bytes}
 use Rattle.hash_family.specs.Setting.{Setting}
 use Rattle.job_format.proofs.Reading.{one_read}
 use Rattle.job_format.proofs.Spellings.{some_reading}
-use Rattle.job_format.specs.Job.{IsReplayJob, Job, ReplayJob, Replay, SpellsReplay, frame_bytes, replay_head}
-use Rattle.job_format.specs.Read.{ReadsJob}
-use Rattle.job_format.specs.declared.fault.JobFault.{JobFault}
+use Rattle.job_format.specs.Job.{IsReplayJob, ReplayJob, Replay, SpellsReplay, frame_bytes, replay_head}
 use Rattle.job_format.specs.declared.item.Item.{Item}
 use Rattle.reply_format.specs.Reply.{ReplayHead}
 use Rattle.share_jobs.specs.Heads.{head_in, head_spelled, head_to, head_where, joined}

@@ -1,11 +1,10 @@
 -- Which bytes are a reply to a replay job.
-use Rattle.std.proofs.Common.{◌≡◌, ◌<◌, ◌↔◌, ◌⊎◌, ◌&&◌, ℕ, Bool, true, false, List, All, Option, None, Some, is_some, Result, Ok, Err, IsTrue, refl, sym, ◌∙◌, ap, subst, inl, inr}
+use Rattle.std.proofs.Common.{◌≡◌, ◌<◌, ◌⊎◌, ◌&&◌, ℕ, Bool, true, false, List, All, is_some, Result, Ok, Err, IsTrue, refl, sym, ◌∙◌, ap, subst, inl, inr}
 use Rattle.std.proofs.lemmas.Bool.{and_parts, true≢false}
 use Rattle.std.specs.Cmp.Derive.{both_true}
-use Rattle.hash_family.specs.Setting.{setting_of}
 use Rattle.reply_format.proofs.OneRead.{always_read, one_read}
 use Rattle.reply_format.specs.Read.{ReadsReply, read_as}
-use Rattle.reply_format.specs.Reply.{ExpectReplay, ReplayHead, ReplayReply, Reply, Replay, Solve, SpellsReply, reply_of}
+use Rattle.reply_format.specs.Reply.{ExpectReplay, ReplayHead, Reply, Replay, Solve, reply_of}
 use Rattle.reply_format.specs.declared.fault.ReplyFault.{ReplyFault}
 use Rattle.reply_format.specs.declared.fault.ReplyFault.TheVariants.{Memory}
 use Rattle.reply_format.specs.declared.reply.Reply.{Reply as ReplyEnum}

@@ -6,7 +6,6 @@ use Rattle.job_format.specs.declared.fault.JobFault.{JobFault}
 use Rattle.reply_format.specs.Reply.{ReplayHead, head_of}
 use Rattle.solve_jobs.specs.Reading.{are_bytes, low_bytes}
 
-
 -- what a reply to a job must say of it
 abbrev pub head_to : ReplayJob → ReplayHead
 head_to job = head_of job.number job.setting (length job.items) (weight_of job.items)

@@ -1,7 +1,7 @@
 //! The job of a share.
 ghost use Rattle.std.specs.Prelude.{◌≡◌, ◌<◌, ◌≤◌, ◌^◌, All, IfOk, IfSome, Some, false, is_some, length, map, option_map, slice_get};
 ghost use Rattle.hash_family.specs.Setting.{setting_of};
-ghost use Rattle.job_format.specs.Job.{IsItem, IsSetting, item_limit, weight_limit, weight_of};
+ghost use Rattle.job_format.specs.Job.{IsItem, IsSetting, SpellsReplay, item_limit, weight_limit, weight_of};
 ghost use Rattle.reply_format.specs.Reply.{head_of, reply_of};
 ghost use Rattle.share_jobs.specs.Heads.{head_spelled, joined};
 ghost use Rattle.share_jobs.specs.Reading.{IsReplyOf, is_good};
@@ -45,6 +45,9 @@ impl ShareJob {
         ensures head { IfOk result (λ job. (share_of job).head
             ≡ head_of number (setting_of params.now) (length items.now) (weight_of items.now)) }
         ensures pieces { IfOk result (λ job. HasPieces number (setting_of params.now) items.now (share_of job).pieces) }
+        ensures spells { IfOk result (λ job. SpellsReplay
+            (record { number = number; setting = setting_of params.now; items = items.now })
+            (joined (share_of job).pieces)) }
         ensures taken { IfOk result (λ job. (share_of job).taken ≡ false) }
     {
         check_setting(params);
@@ -77,7 +80,14 @@ impl ShareJob {
         ensures spelled { IfOk result (λ found. IfSome found (λ reply.
             IsReplyOf (share_of self.now).head (reply_of reply) bytes.now)) }
     {
-        reply_to(alloc, self.number, self.params, self.items, self.weight, bytes)
+        reply_to(
+            alloc,
+            self.number,
+            self.params,
+            self.items,
+            self.weight,
+            bytes,
+        )
     }
 
     /// A reply was taken.

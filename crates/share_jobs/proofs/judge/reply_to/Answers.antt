@@ -1,4 +1,4 @@
-use Rattle.std.proofs.Common.{Ok, Err, ap, refl}
+use Rattle.std.proofs.Common.{Ok, Err, refl}
 use Rattle.hash_family.specs.Setting.{setting_of}
 use Rattle.reply_format.specs.Reply.{head_of}
 use Rattle.share_jobs.proofs.Judged.{fault_read, reply_read}

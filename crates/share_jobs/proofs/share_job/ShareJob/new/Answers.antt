@@ -25,3 +25,14 @@ invariant_of-result c =
           (joined pieces)
           (pieces_spell c.args.number setting c.args.items.now pieces within c.in_ok-pieces.ensures.pieces));
     }
+
+pub returns-clause-spells : goal.returns-clause-spells
+returns-clause-spells c =
+    pieces_spell c.args.number (setting_of c.args.params.now) c.args.items.now
+    (map bytes_in c.in_ok-pieces.pieces.items) (record {
+      number = c.ranges.number.fits;
+      setting = c.check_setting.ensures;
+      each = c.check_items.ensures;
+      few = c.requires.few;
+      light = c.requires.light;
+    }) c.in_ok-pieces.ensures.pieces
