@@ -1,13 +1,16 @@
 -- The items of a share, and lists that grow.
 use Rattle.std.proofs.Common.{◌≡◌, ◌⊎◌, ℕ, ◌+◌, ◌<◌, ◌≤◌, zero, suc, Bool, true, false, cond, List, [], ◌∷◌, ◌++◌, length, get_or, map, take, refl, sym, ◌∙◌, ap, subst, arith, inl, inr}
 use Rattle.std.specs.Prelude.{filter, sum_by}
-use Rattle.std.proofs.lemmas.List.{append-nil}
+use Rattle.std.proofs.lemmas.List.{append-nil, get_or_append_left, get_or_push, length-map, map-append}
 use Rattle.std.proofs.lemmas.List.Sums.{sum_by-cons}
 use Rattle.flow_keys.specs.declared.routed.Routed.{Routed}
 use Rattle.job_format.specs.Job.{weight_of}
 use Rattle.job_format.specs.declared.item.Item.{Item}
 use Rattle.path_shares.specs.Shares.{is_shared, job_item, share}
+use Rattle.replay_places.specs.Epochs.{no_share, share_at}
 use Rattle.routed_trace.specs.Routed.{weight_of_routed}
+use Rattle.share_jobs.specs.Share.{Share, share_of}
+use Rattle.share_jobs.specs.declared.share_job.ShareJob.{ShareJob}
 
 module _ (placement : List ℕ) (epoch switch : ℕ) where
   abbrev of_share : Routed → Bool
@@ -75,3 +78,19 @@ module _ (placement : List ℕ) (epoch switch : ℕ) where
             ++ cond (of_share packet) (job_item packet ∷ []) []
       joined true = refl
       joined false = refl
+
+-- ---- shares
+
+-- a share more
+pub share_before : (jobs : List ShareJob) (job : ShareJob) (number : ℕ) → number < length jobs
+    → share_at (map share_of (jobs ++ job ∷ [])) number ≡ share_at (map share_of jobs) number
+share_before jobs job number within =
+    ap (λ (shares : List Share). share_at shares number) (map-append share_of jobs (job ∷ []))
+    ∙ get_or_append_left (map share_of jobs) (share_of job ∷ []) no_share number
+      (omega (arith, within, length-map jobs share_of))
+
+pub share_last : (jobs : List ShareJob) (job : ShareJob)
+    → share_at (map share_of (jobs ++ job ∷ [])) (length jobs) ≡ share_of job
+share_last jobs job =
+    ap (λ (shares : List Share). share_at shares (length jobs)) (map-append share_of jobs (job ∷ []))
+    ∙ get_or_push (map share_of jobs) (share_of job) no_share (length jobs) (length-map jobs share_of)

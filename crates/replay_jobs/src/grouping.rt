@@ -4,6 +4,8 @@ ghost use Rattle.hash_family.specs.Setting.{setting_of};
 ghost use Rattle.path_shares.specs.Shares.{share_job};
 ghost use Rattle.routed_trace.specs.Routed.{weight_of_routed};
 ghost use Rattle.share_jobs.specs.Share.{share_of};
+ghost use Rattle.count_sketch.specs.Counters.{AllUpTo};
+ghost use Rattle.sketch_merge.specs.Merged.{HaveUpTo};
 ghost use Rattle.sketch_merge.specs.Merging.{merged_view};
 ghost use Rattle.replay_places.specs.Epochs.{share_at};
 ghost use Rattle.replay_jobs.specs.Grouped.{IsShareOf};
@@ -74,6 +76,8 @@ fn share_numbered(
 pub(crate) fn all_merged(alloc: Global, params: Params, epochs: u8) -> Result<Vec<Merged>, Memory>
     ensures number { IfOk result (λ merged. length merged.items ≡ epochs) }
     ensures each { IfOk result (λ merged. All (λ view. view ≡ merged_view (setting_of params) 0 []) merged.items) }
+    ensures small { IfOk result (λ merged. All (λ view. All (AllUpTo view.weight) view.counters) merged.items) }
+    ensures few { IfOk result (λ merged. All (λ view. HaveUpTo 0 view.keys) merged.items) }
 {
     let mut merged = Vec::new(alloc);
     for _ in 0..epochs {
