@@ -99,7 +99,8 @@ module _ (setting : Setting) (epochs switches : ℕ) (placement : List ℕ) (rou
       let sums = sum_range open_weight weight part 0 (λ k under.
       ap open_weight (segment_at switches epoch k shares no_share (omega (arith, many)))
       ∙ opened (share_at shares (epoch * switches + k)) (none_taken (epoch * switches + k))
-      ∙ ap (λ (h : ReplayHead). h.weight) (share_of_job epoch k inside (omega (arith, many))).head) in
+      ∙ ap (λ (h : ReplayHead). h.weight) (share_of_job epoch k inside (omega (arith, many))).head
+      ∙ ap weight (omega arith)) in
       let whole = shares_weigh switches placement routed epoch on in
       let light = items_in_light epoch routed in
       let same : sum_by weight (range_with_len 0 (length part)) ≡ sum_by weight (range_with_len 0 switches) =
@@ -148,9 +149,9 @@ module _ (setting : Setting) (epochs switches : ℕ) (placement : List ℕ) (rou
   pub works : IsReplayWork setting epochs switches placement routed (work_of switches shares)
   works = record {
     count = number;
-    spelled = λ epoch switch inside under. rw pieces_at (epoch * switches + switch) (within epoch switch inside under)
+    spelled = λ epoch switch inside under. rw (pieces_at (epoch * switches + switch) (within epoch switch inside under))
         ((share_of_job epoch switch inside under).spelled);
-    pieces = λ epoch switch inside under. rw pieces_at (epoch * switches + switch) (within epoch switch inside under)
+    pieces = λ epoch switch inside under. rw (pieces_at (epoch * switches + switch) (within epoch switch inside under))
         ((share_of_job epoch switch inside under).pieces);
     judges = λ job bytes. (says job bytes (nat_lt job (epochs * switches)) refl, answers job bytes);
     behind = ap (λ (b : Bool). if b then (share_at shares (epochs * switches)).pieces else (switches ∷ []) ∷ []) past;
@@ -180,7 +181,7 @@ module _ (setting : Setting) (epochs switches : ℕ) (placement : List ℕ) (rou
       answers : (job : ℕ) (bytes : List ℕ) → (epoch : ℕ) × (switch : ℕ) × IsNumbered epochs switches job epoch switch
           × IsReplyTo (head_to (job_of epoch switch)) bytes → is_good (share_at shares job).head bytes ≡ true
       answers job bytes found =
-          let numbered = found.2.0 in
+          let numbered = found.2 in
           let head = (share_of_job found.0 found.1 numbered.epoch_within numbered.switch_within).head in
           ap (λ (n : ℕ). is_good (share_at shares n).head bytes) numbered.number_is
-          ∙ ap (λ (h : ReplayHead). is_good h bytes) head ∙ reply_good (head_to (job_of found.0 found.1)) bytes found.2.1
+          ∙ ap (λ (h : ReplayHead). is_good h bytes) head ∙ reply_good (head_to (job_of found.0 found.1)) bytes found.3
