@@ -1,9 +1,8 @@
 -- What was merged of the replies in places.
-use Rattle.std.proofs.Common.{◌≡◌, ℕ, ◌+◌, ◌*◌, ◌<◌, ◌≤◌, ◌^◌, zero, suc, Bool, true, false, List, [], ◌∷◌, Option, None, Some, length, get_or, map, refl, sym, ◌∙◌, ap, subst, arith, All}
+use Rattle.std.proofs.Common.{◌≡◌, ℕ, ◌+◌, ◌*◌, ◌<◌, ◌≤◌, ◌^◌, zero, suc, Bool, true, false, List, [], ◌∷◌, Option, None, Some, length, get_or, map, sym, ◌∙◌, ap, subst, arith, All}
 use Rattle.std.specs.Prelude.{nat_lt, sum_by, if◌then◌else◌}
 use Rattle.std.proofs.Math.Nat.{le_of_mul-le-mul_right, mul-le-mul_right}
 use Rattle.std.proofs.lemmas.Bool.Decides.{nat_tests}
-use Rattle.std.proofs.lemmas.List.{get_or_default}
 use Rattle.std.proofs.lemmas.List.Elements.{All-from_get_or}
 use Rattle.std.proofs.lemmas.List.Sums.{sum_by-le}
 use Rattle.count_sketch.specs.Counters.{AllUpTo}
@@ -43,7 +42,7 @@ same_product a b n some same =
 
 module _ (own : Setting) (n : ℕ) (shares : List Share) (merged : List View) (fit : AreEpochs own n shares merged)
     (spelled : (job : ℕ) → job < length shares
-      → head_spelled (joined (share_at shares job).pieces) ≡ Some (share_at shares job).head)
+    → head_spelled (joined (share_at shares job).pieces) ≡ Some (share_at shares job).head)
     (setting : Setting) (epochs switches : ℕ) (placement : List ℕ) (routed : List Routed)
     (work : IsReplayWork setting epochs switches placement routed (work_of n shares)) where
   same_switches : n ≡ switches
@@ -137,4 +136,4 @@ module _ (own : Setting) (n : ℕ) (shares : List Share) (merged : List View) (f
   pub few_views : All (λ (view : View). HaveUpTo key_limit view.keys) merged
   few_views = All-from_get_or (λ (view : View). HaveUpTo key_limit view.keys) merged no_view
       (λ epoch within. few_more (heap_limit * sum_by taken_number (segment n epoch shares)) key_limit
-        (view_at merged epoch).keys (omega (arith, few_taken epoch within)) (fit.each epoch within).keys)
+      (view_at merged epoch).keys (omega (arith, few_taken epoch within)) (fit.each epoch within).keys)

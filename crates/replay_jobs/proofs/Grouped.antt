@@ -1,6 +1,6 @@
 -- The items of a share, and lists that grow.
-use Rattle.std.proofs.Common.{◌≡◌, ◌⊎◌, ℕ, ◌+◌, ◌<◌, ◌≤◌, zero, suc, Bool, true, false, cond, List, [], ◌∷◌, ◌++◌, length, get_or, map, take, refl, sym, ◌∙◌, ap, subst, arith, inl, inr}
-use Rattle.std.specs.Prelude.{filter, sum_by}
+use Rattle.std.proofs.Common.{◌≡◌, ℕ, ◌+◌, ◌<◌, ◌≤◌, suc, Bool, true, false, cond, List, [], ◌∷◌, ◌++◌, length, map, refl, sym, ◌∙◌, ap, subst, arith}
+use Rattle.std.specs.Prelude.{filter}
 use Rattle.std.proofs.lemmas.List.{append-nil, get_or_append_left, get_or_push, length-map, map-append}
 use Rattle.std.proofs.lemmas.List.Sums.{sum_by-cons}
 use Rattle.flow_keys.specs.declared.routed.Routed.{Routed}
@@ -19,7 +19,7 @@ module _ (placement : List ℕ) (epoch switch : ℕ) where
   -- a packet more
   chosen : (b : Bool) (packet : Routed) (front rest : List Routed) → of_share packet ≡ b
       → map job_item (cond b (packet ∷ filter of_share rest) (filter of_share rest))
-        ≡ cond b (job_item packet ∷ []) [] ++ map job_item (filter of_share rest)
+      ≡ cond b (job_item packet ∷ []) [] ++ map job_item (filter of_share rest)
   chosen true packet front rest is = refl
   chosen false packet front rest is = refl
 
@@ -73,9 +73,9 @@ module _ (placement : List ℕ) (epoch switch : ℕ) where
       ∙ ap (λ (items : List Item). items ++ cond (of_share packet) (job_item packet ∷ []) []) (sym (share_cons first front))
     where
       joined : (b : Bool) → cond b (job_item first ∷ []) []
-            ++ (share placement epoch switch front ++ cond (of_share packet) (job_item packet ∷ []) [])
+          ++ (share placement epoch switch front ++ cond (of_share packet) (job_item packet ∷ []) [])
           ≡ (cond b (job_item first ∷ []) [] ++ share placement epoch switch front)
-            ++ cond (of_share packet) (job_item packet ∷ []) []
+          ++ cond (of_share packet) (job_item packet ∷ []) []
       joined true = refl
       joined false = refl
 
@@ -87,7 +87,7 @@ pub share_before : (jobs : List ShareJob) (job : ShareJob) (number : ℕ) → nu
 share_before jobs job number within =
     ap (λ (shares : List Share). share_at shares number) (map-append share_of jobs (job ∷ []))
     ∙ get_or_append_left (map share_of jobs) (share_of job ∷ []) no_share number
-      (omega (arith, within, length-map jobs share_of))
+    (omega (arith, within, length-map jobs share_of))
 
 pub share_last : (jobs : List ShareJob) (job : ShareJob)
     → share_at (map share_of (jobs ++ job ∷ [])) (length jobs) ≡ share_of job

@@ -25,10 +25,10 @@ module _ (setting : Setting) (epochs switches : ℕ) (placement : List ℕ) (rou
     pub count : work.count ≡ epochs * switches
     pub spelled : (epoch switch : ℕ) → epoch < epochs → switch < switches
         → SpellsReplay (share_job setting switches placement routed epoch switch)
-            (joined (work.pieces (epoch * switches + switch)))
+        (joined (work.pieces (epoch * switches + switch)))
     pub pieces : (epoch switch : ℕ) → epoch < epochs → switch < switches
         → HasPieces (epoch * switches + switch) setting (share placement epoch switch routed)
-            (work.pieces (epoch * switches + switch))
+        (work.pieces (epoch * switches + switch))
     pub judges : (number : ℕ) (bytes : List ℕ) → (work.is_good number bytes ≡ true) ↔ ((epoch : ℕ) × (switch : ℕ)
         × IsNumbered epochs switches number epoch switch
         × IsReplyTo (head_to (share_job setting switches placement routed epoch switch)) bytes)
@@ -50,6 +50,6 @@ module _ (setting : Setting) (epochs switches : ℕ) (placement : List ℕ) (rou
     pub replies_number : length replies ≡ epochs * switches
     pub each : (epoch switch : ℕ) → epoch < epochs → switch < switches
         → IsReplyAt epoch switch (slice_index_or replies (epoch * switches + switch) None)
-            (slice_index_or places (epoch * switches + switch) None)
+        (slice_index_or places (epoch * switches + switch) None)
     pub views : (epoch : ℕ) → epoch < epochs
         → view_at merged epoch ≡ view_of setting (segment switches epoch replies)

@@ -36,7 +36,7 @@ pub(crate) fn all_shares(
     ensures number { IfOk result (λ shares. length shares.items ≡ epochs * switches) }
     ensures each { IfOk result (λ shares. (job : ℕ) → job < epochs * switches
         → IsShareOf (share_job (setting_of params.now) switches placement.now routed.now (job / switches) (job % switches))
-            (share_at (map share_of shares.items) job)) }
+        (share_at (map share_of shares.items) job)) }
 {
     let mut shares = Vec::new(alloc);
     for number in 0..u32::from(epochs) * u32::from(switches) {

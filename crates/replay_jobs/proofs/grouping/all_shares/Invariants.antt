@@ -11,4 +11,4 @@ invariant-loop-number l =
     (length l.shares.items ≡ l.number)
     × ((job : ℕ) → job < l.number
     → IsShareOf (share_job (setting_of l.params) l.switches l.placement l.routed (job / l.switches) (job % l.switches))
-        (share_at (map share_of l.shares.items) job))
+    (share_at (map share_of l.shares.items) job))

@@ -1,4 +1,4 @@
-use Rattle.std.proofs.Common.{◌≡◌, ◌/◌, ◌+◌, ◌*◌, ◌<◌, ℕ, List, get_or, length, map, refl, sym, ◌∙◌, ap, subst, arith}
+use Rattle.std.proofs.Common.{◌≡◌, ◌/◌, ◌+◌, ◌*◌, ◌<◌, ℕ, get_or, length, map, sym, ◌∙◌, ap, subst, arith}
 use Rattle.std.specs.Prelude.{slice_set}
 use Rattle.std.proofs.lemmas.List.{get_or_default, length-map, map-set}
 use Rattle.hash_family.specs.Setting.{Setting}
@@ -39,7 +39,7 @@ was c =
     omega (arith, c.requires.known, length-map c.args.shares.now share_of, fit.number) in
     ap (λ (n : ℕ). get_or c.args.merged.now (c.args.job / n) c.index-merged-number.result) c.from.ensures
     ∙ get_or_default c.args.merged.now (c.args.job / c.args.switches) c.index-merged-number.result no_view
-      (epoch_within c.args.job c.args.switches (length c.args.merged.now) fit.switches_some known)
+    (epoch_within c.args.job c.args.switches (length c.args.merged.now) fit.switches_some known)
 
 took : (c : goal.Joined-reply-4) → TookShare (c.args.job / c.args.switches) c.args.job c.args.bytes.now
     (map share_of c.args.shares.now) (map share_of (slice_set c.args.shares.now c.args.job c.set_taken.new.self))
@@ -55,9 +55,9 @@ took c =
     (holds_some (λ r. IsReplyOf (share_of (get_or c.args.shares.now c.args.job c.index-shares-number.result)).head
     (reply_of r) c.args.bytes.now) c.in_ok-reply.field-0 c.in-Some.reply c.in-Some.is c.in_ok-reply.ensures.spelled) in
     let new : map share_of (slice_set c.args.shares.now c.args.job c.set_taken.new.self)
-            ≡ slice_set shares c.args.job (with_taken (share_at shares c.args.job)) =
-        map-set share_of c.args.shares.now c.args.job c.set_taken.new.self
-        ∙ ap (slice_set shares c.args.job) (c.set_taken.ensures.taken ∙ ap with_taken (sym again)) in
+    ≡ slice_set shares c.args.job (with_taken (share_at shares c.args.job)) =
+    map-set share_of c.args.shares.now c.args.job c.set_taken.new.self
+    ∙ ap (slice_set shares c.args.job) (c.set_taken.ensures.taken ∙ ap with_taken (sym again)) in
     let views = ap (λ (n : ℕ). slice_set c.args.merged.now n c.take.new.self) here in
     took_reply (c.args.job / c.args.switches) c.args.job c.args.bytes.now shares
     (map share_of (slice_set c.args.shares.now c.args.job c.set_taken.new.self)) c.args.merged.now

@@ -14,9 +14,9 @@ invariant_of-result c =
     let number : length shares ≡ c.args.epochs * c.args.switches =
     length-map c.in_ok-shares.shares.items share_of ∙ c.in_ok-shares.ensures.number in
     let each = subst (λ (placement : List ℕ). (job : ℕ) → job < c.args.epochs * c.args.switches
-        → IsShareOf (share_job (setting_of c.args.params) c.args.switches placement c.args.routed.now
-            (job / c.args.switches) (job % c.args.switches)) (share_at shares job)) c.as_slice-placement.ensures
-        c.in_ok-shares.ensures.each in
+    → IsShareOf (share_job (setting_of c.args.params) c.args.switches placement c.args.routed.now
+    (job / c.args.switches) (job % c.args.switches)) (share_at shares job)) c.as_slice-placement.ensures
+    c.in_ok-shares.ensures.each in
     record {
       fit = shares_fit (setting_of c.args.params) c.args.epochs c.args.switches c.args.placement.now.sites
           c.args.routed.now shares c.requires.switches_some number each
@@ -31,9 +31,9 @@ returns c =
     let number : length shares ≡ c.args.epochs * c.args.switches =
     length-map c.in_ok-shares.shares.items share_of ∙ c.in_ok-shares.ensures.number in
     let each = subst (λ (placement : List ℕ). (job : ℕ) → job < c.args.epochs * c.args.switches
-        → IsShareOf (share_job (setting_of c.args.params) c.args.switches placement c.args.routed.now
-            (job / c.args.switches) (job % c.args.switches)) (share_at shares job)) c.as_slice-placement.ensures
-        c.in_ok-shares.ensures.each in
+    → IsShareOf (share_job (setting_of c.args.params) c.args.switches placement c.args.routed.now
+    (job / c.args.switches) (job % c.args.switches)) (share_at shares job)) c.as_slice-placement.ensures
+    c.in_ok-shares.ensures.each in
     record {
       work = works (setting_of c.args.params) c.args.epochs c.args.switches c.args.placement.now.sites c.args.routed.now
           shares c.requires.switches_some number each;
