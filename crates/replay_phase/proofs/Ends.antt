@@ -1,5 +1,5 @@
 -- What replays by children did, from what supervising them did.
-use Rattle.std.proofs.Common.{◌≡◌, ℕ, ◌+◌, ◌*◌, ◌<◌, zero, suc, Bool, true, false, List, [], ◌∷◌, ◌++◌, Option, None, Some, Ok, Err, length, get_or, map, refl, sym, ◌∙◌, ap, subst, arith, inr}
+use Rattle.std.proofs.Common.{◌≡◌, ℕ, ◌+◌, ◌*◌, ◌<◌, ◌≤◌, zero, suc, Bool, true, false, List, [], ◌∷◌, ◌++◌, Option, None, Some, Ok, Err, length, get_or, map, refl, sym, ◌∙◌, ap, subst, arith, inr}
 use Rattle.std.specs.Prelude.{⊤, is_some, slice_index_or}
 use Rattle.std.specs.List.{range_with_len}
 use Rattle.std.specs.Option.{option_to_list}
@@ -104,7 +104,7 @@ module _ (r : Replaying) (old new : CrewState) (jobs : JobsState) (standing : St
         some_at : (epoch switch : ℕ) → epoch < r.epochs → switch < r.switches
             → is_some (get_or s.taken (epoch * r.switches + switch) None) ≡ true
         some_at epoch switch within under =
-            let below = mul-le-mul_right {epoch + 1} {r.epochs} r.switches (omega arith) in
+            let below : (epoch + 1) * r.switches ≤ r.epochs * r.switches = mul-le-mul_right r.switches (omega arith) in
             let known : epoch * r.switches + switch < p.work.count =
             omega (arith, below, replays.work.count) in
             ap (λ (places : Places). is_some (slice_index_or places (epoch * r.switches + switch) None)) s.answers.all

@@ -1,5 +1,6 @@
 -- What an answer gives.
-use Rattle.std.specs.Prelude.{List, Result, Ok, Err, Vec, Global}
+use Rattle.std.specs.Prelude.{List, Result, Ok, Err, Vec}
+use Rattle.std.specs.Global.{Global}
 use Rattle.replay_supervisor.specs.declared.stop.Stop.{Stop}
 use Rattle.sketch_merge.specs.Merged.{View}
 
