@@ -25,7 +25,8 @@ spellings : (seed flows : ℕ) (ns : List ℕ)
     → flat_map spelling (map (member_of seed flows) ns) ≡ flat_map (record_bytes seed flows) ns
 spellings seed flows [] = refl
 spellings seed flows (n ∷ ns) =
-    ap (λ (bytes : List ℕ). bytes ++ flat_map spelling (map (member_of seed flows) ns)) (spelling-member_of seed flows n)
+    ap (λ (bytes : List ℕ). bytes ++ flat_map spelling (map (member_of seed flows) ns))
+    (spelling-member_of seed flows n)
     ∙ ap (λ (bytes : List ℕ). record_bytes seed flows n ++ bytes) (spellings seed flows ns)
 
 header_of-generated_trace : (seed packets flows : ℕ)

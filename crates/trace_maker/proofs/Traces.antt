@@ -1,10 +1,10 @@
 -- Traces, record by record.
-use Rattle.std.proofs.Common.{◌≡◌, ℕ, zero, suc, ◌+◌, ◌*◌, List, [], ◌++◌, length, refl, ◌∙◌, ap, sym, arith, append_assoc, length-append, add-one}
+use Rattle.std.proofs.Common.{◌≡◌, ℕ, zero, suc, ◌+◌, ◌*◌, List, ◌++◌, length, refl, ◌∙◌, ap, sym, arith, append_assoc, length-append, add-one}
 use Rattle.std.specs.List.{flat_map, range_with_len}
 use Rattle.rand_chacha.specs.ChaCha.{ChaCha}
 use Rattle.trace_maker.specs.Packet.{DrawsOne}
 use Rattle.trace_maker.specs.Stream.{stream_at}
-use Rattle.trace_maker.specs.Trace.{flow_of, frame_bytes, generated_trace, head_bytes, header_bytes, original_of, record_bytes}
+use Rattle.trace_maker.specs.Trace.{flow_of, frame_bytes, generated_trace, head_bytes, header_bytes, record_bytes}
 use Rattle.trace_maker.specs.declared.packet.Packet.{Packet}
 use Rattle.trace_maker.proofs.Ranges.{one_more_piece}
 

@@ -21,7 +21,7 @@ seconds n = 1600000000 + n / 50000
 abbrev pub microseconds : ℕ → ℕ
 microseconds n = n % 50000 * 20
 
--- the networks of a flow, one of thirty, and its host there
+-- the network of a flow, one of thirty, and its host there
 abbrev pub network : ℕ → ℕ
 network flow = flow % 30
 
@@ -40,8 +40,8 @@ abbrev pub source_port : ℕ → ℕ
 source_port flow = 1024 + flow % 50000
 
 -- TCP where its number is odd, else UDP
-abbrev pub protocol : ℕ → ℕ
-protocol flow = if flow % 2 == 1 then 6 else 17
+abbrev pub protocol_of : ℕ → ℕ
+protocol_of flow = if flow % 2 == 1 then 6 else 17
 
 -- magic number, version, zone, accuracy, longest captured length, and link
 abbrev pub header_bytes : List ℕ
@@ -61,10 +61,10 @@ ethernet_bytes = 2 ∷ 0 ∷ 0 ∷ 0 ∷ 0 ∷ 2 ∷ 2 ∷ 0 ∷ 0 ∷ 0 ∷ 0 �
 
 -- version and header length, service, total length, identification, fragment, time to live, protocol, checksum, and
 -- addresses
-abbrev pub ipv4_bytes : ℕ → ℕ → List ℕ
-ipv4_bytes flow original =
+abbrev pub ipv4_bytes : ℕ → ℕ → ℕ → List ℕ
+ipv4_bytes protocol flow original =
     (0x45 ∷ 0 ∷ []) ++ (big_bytes 2 (original - 14) ++ (big_bytes 2 0 ++ (big_bytes 2 0
-    ++ ((0x40 ∷ protocol flow ∷ []) ++ (big_bytes 2 0 ++ (source_address flow ++ destination_address flow))))))
+    ++ ((0x40 ∷ protocol ∷ []) ++ (big_bytes 2 0 ++ (source_address flow ++ destination_address flow))))))
 
 -- the ports, and four zero bytes
 abbrev pub port_bytes : ℕ → List ℕ
@@ -72,7 +72,7 @@ port_bytes flow = big_bytes 2 (source_port flow) ++ (big_bytes 2 443 ++ big_byte
 
 -- the captured bytes of a packet
 unfoldable pub frame_bytes : ℕ → ℕ → List ℕ
-frame_bytes flow original = ethernet_bytes ++ (ipv4_bytes flow original ++ port_bytes flow)
+frame_bytes flow original = ethernet_bytes ++ (ipv4_bytes (protocol_of flow) flow original ++ port_bytes flow)
 
 -- the record of packet n
 unfoldable pub record_bytes : ℕ → ℕ → ℕ → List ℕ

@@ -1,4 +1,4 @@
-use Rattle.std.proofs.Common.{◌≡◌, List, ℕ, ◌++◌, ap, sym, ◌∙◌, arith}
+use Rattle.std.proofs.Common.{List, ℕ, ◌++◌, ap, sym, ◌∙◌, arith}
 use Rattle.trace_maker.specs.Trace.{header_bytes}
 use Rattle.trace_maker.proofs.Traces.{generated_trace-none, generated_trace-more, record_drawn}
 use Rattle.trace_maker.proofs.trace.trace_bytes.Goals as goal
