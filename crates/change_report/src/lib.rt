@@ -1,11 +1,12 @@
 //! The report of an epoch, and of what changed from an epoch to the next.
 //!
 //! - `level_count`: `LevelCount`, the numbers of one level
-//! - `block`: `epoch_text`, the lines of an epoch
+//! - `block`: `epoch_text` and `brief_epoch_text`, all lines of an epoch, and those that name no level and no key
 //! - `changes`: `change`, the sum of the changes and the changed keys
-//! - `change_lines`: `change_text`, their lines
+//! - `change_lines`: `change_text` and `brief_change_text`, their lines, and the line of the sum alone
 //!
-//! `specs/Block.antt` says the lines of an epoch, and `specs/Change.antt` what changed and its lines.
+//! `specs/Block.antt` says the lines of an epoch, `specs/Change.antt` what changed and its lines, and
+//! `specs/Form.antt` which of the lines are written.
 #![tactic(auto)]
 
 mod block;
@@ -13,7 +14,7 @@ mod change_lines;
 mod changes;
 mod level_count;
 
-pub use block::epoch_text;
-pub use change_lines::change_text;
+pub use block::{brief_epoch_text, epoch_text};
+pub use change_lines::{brief_change_text, change_text};
 pub use changes::change;
 pub use level_count::LevelCount;
