@@ -40,9 +40,9 @@ pub fn change_text(
     }
 }
 
-/// The one line of the change to the epoch of this number, which is above 0, from the one before: that of `change_text`
-/// with the sum of the changes. Both have the same numbers and no absolute counter above 2^44; the family is that of the
-/// sketches. It takes memory for the text and for the difference.
+/// The one line of the change to the epoch of this number, which is above 0, from the one before: that of
+/// `change_text` with the sum of the changes. Both have the same numbers and no absolute counter above 2^44; the family
+/// is that of the sketches. It takes memory for the text and for the difference.
 #[tactic(auto, unfolding(crate::specs::Form::change_block))]
 pub fn brief_change_text(
     alloc: Global,

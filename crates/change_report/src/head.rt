@@ -1,6 +1,7 @@
 //! The lines of the head of a report.
 ghost use Rattle.std.specs.Prelude.{◌≡◌, ◌++◌, codes, IfOk, string_bytes};
-ghost use Rattle.change_report.specs.Head.{counter_words, counts_line, heap_text, kept_words, setting_in, sketch_line, weight_word};
+ghost use Rattle.change_report.specs.Head.{counter_words, counts_line, heap_text, kept_words, setting_in};
+ghost use Rattle.change_report.specs.Head.{sketch_line, weight_word};
 
 use mon_io::Memory;
 use std::alloc::{AllocError, Global};
