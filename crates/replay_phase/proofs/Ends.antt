@@ -88,9 +88,13 @@ module _ (r : Replaying) (old new : CrewState) (jobs : JobsState) (standing : St
         each = λ epoch switch within under.
             let found = filled epoch switch (get_or gathered.replies (epoch * r.switches + switch) None)
             (get_or s.taken (epoch * r.switches + switch) None) (gathered.each epoch switch within under)
-            (some_at epoch switch within under) in
-            (found.0, ap (λ (places : Places). slice_index_or places (epoch * r.switches + switch) None)
-            (sym s.answers.all) ∙ found.1, found.2, found.3);
+            (some_at epoch switch within under) in (
+              found.0,
+              ap (λ (places : Places). slice_index_or places (epoch * r.switches + switch) None)
+                  (sym s.answers.all) ∙ found.1,
+              found.2,
+              found.3,
+            );
         number = gathered.number;
         views = λ epoch within.
             gathered.views epoch within
@@ -118,8 +122,8 @@ module _ (r : Replaying) (old new : CrewState) (jobs : JobsState) (standing : St
             all_present (replies epoch) part 0 (λ k under.
             segment_at r.switches epoch k gathered.replies None (omega (arith, many))
             ∙ there epoch k (get_or gathered.replies (epoch * r.switches + k) None)
-              (get_or s.taken (epoch * r.switches + k) None) (gathered.each epoch k within (omega (arith, many)))
-              (some_at epoch k within (omega (arith, many)))
+            (get_or s.taken (epoch * r.switches + k) None) (gathered.each epoch k within (omega (arith, many)))
+            (some_at epoch k within (omega (arith, many)))
             ∙ ap (λ (n : ℕ). Some (replies epoch n)) (omega arith))
             ∙ ap (λ (n : ℕ). map (replies epoch) (range_with_len 0 n)) many
 
