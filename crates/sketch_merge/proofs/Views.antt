@@ -49,6 +49,10 @@ IsView-stored setting counters keys dropped weight stored =
       ascending = stored.ascending;
     }
 
+pub zeros_small : (n number : ℕ) → AllUpTo n (replicate number (pos 0))
+zeros_small n number =
+    record { each = All-replicate (λ (x : ℤ). unsigned_abs x ≤ n) number (pos 0) (omega arith) }
+
 -- counters that are 0, and no keys
 pub IsStored-nothing : (setting : Setting)
     → IsTrue (are_within setting.levels setting.rows setting.width setting.heap)
@@ -59,7 +63,7 @@ IsStored-nothing setting within =
     let number : ℕ = (setting.levels + 1) * (setting.rows * setting.width) in record {
       within = within;
       number = length-replicate number (pos 0);
-      small = record { each = All-replicate (λ (x : ℤ). unsigned_abs x ≤ 2 ^ 45) number (pos 0) (omega arith) };
+      small = zeros_small (2 ^ 45) number;
       key_levels = length-replicate (setting.levels + 1) [];
       ascending = All-replicate (IsStrictlySortedBy (slice_cmp nat_cmp)) (setting.levels + 1) [] tt;
     }

@@ -59,7 +59,8 @@ seen_all P view xs i x within read all =
 
 -- one element more, which is f of two that were read
 pub seen_more : {V W X : Type 0} (view : V → X) (other : W → X) (f : X → X → X) (xs : List V) (ys : List W)
-    (all : List V) (i : ℕ) (x : V) (y : W) (v : V) → i < length xs → length xs ≡ length ys → x ≡ get_or xs i x → y ≡ get_or ys i y
+    (all : List V) (i : ℕ) (x : V) (y : W) (v : V)
+    → i < length xs → length xs ≡ length ys → x ≡ get_or xs i x → y ≡ get_or ys i y
     → view v ≡ f (view x) (other y) → map view all ≡ take i (zip2 f (map view xs) (map other ys))
     → map view (all ++ v ∷ []) ≡ take (i + 1) (zip2 f (map view xs) (map other ys))
 seen_more {V} {W} {X} view other f xs ys all i x y v within same first second value so_far =

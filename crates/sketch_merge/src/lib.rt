@@ -3,7 +3,7 @@
 //! - `merged`: `Merged`, made of the counters and keys of its levels, or of nothing and replies, with its queries
 //! - `nothing`: the counters and lists of keys that no reply came to
 //! - `levels`: the counters of a level, among those of all levels, which lie one level after another
-//! - `subtraction`: counters less others
+//! - `addition`, `subtraction`: counters with others added, and less others
 //! - `union`: the keys of two ascending lists in one, level by level
 //! - `marks`: whether a heap of a reply dropped a key
 //! - `laws`: which keys are in a union, and that replies say the same in whatever order they come
@@ -11,6 +11,7 @@
 //! `specs/Merged.antt` says what clauses see, `specs/Merging.antt` what replies say together. No query takes memory.
 #![tactic(auto)]
 
+mod addition;
 mod laws;
 mod levels;
 mod marks;

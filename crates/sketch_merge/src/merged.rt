@@ -13,6 +13,7 @@ ghost use Rattle.reply_format.specs.Reply.{reply_of};
 ghost use Rattle.sketch_merge.specs.Merged.{HaveUpTo, IsView, counters_at, difference, keys_at};
 ghost use Rattle.sketch_merge.specs.Merging.{IfReplay, MayTake, merged_view, with_reply};
 
+use crate::addition::add;
 use crate::levels::level_of;
 use crate::marks::joined_mark;
 use crate::nothing::{no_keys, zeros};
@@ -21,7 +22,6 @@ use crate::union::{unions, unions_with_heaps};
 use count_sketch::estimate_in;
 use flow_keys::FlowKey;
 use hash_family::{Family, Params};
-use lane_kernels::add_into;
 use mon_io::Memory;
 use reply_format::Reply;
 use std::alloc::Global;
@@ -60,6 +60,8 @@ impl Merged {
     /// counters and for a list of keys a level.
     pub fn new(alloc: Global, params: Params) -> Result<Merged, Memory>
         ensures value { IfOk result (λ merged. merged ≡ merged_view (setting_of params) 0 []) }
+        ensures small { IfOk result (λ merged. All (AllUpTo merged.weight) merged.counters) }
+        ensures few { IfOk result (λ merged. HaveUpTo 0 merged.keys) }
     {
         let levels = usize::from(params.levels) + 1;
         let size = usize::from(params.rows) * usize::from(params.width);
@@ -127,7 +129,7 @@ impl Merged {
         let heaps = body.heaps.as_slice();
         let keys = unions_with_heaps(alloc, &self.keys, heaps)?;
         self.weight += weight;
-        add_into(&mut self.counters, body.counters.as_slice());
+        add(&mut self.counters, body.counters.as_slice());
         self.keys = keys;
         self.dropped = joined_mark(self.dropped, heaps);
         Ok(())

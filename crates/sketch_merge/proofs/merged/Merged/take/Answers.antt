@@ -38,7 +38,7 @@ reply_in c =
 
 -- what is stored then
 abbrev next_counters : goal.After-self-3-1 → List ℤ
-next_counters c = (with_items c.self.inside.counters c.add_into.new.a).items
+next_counters c = (with_items c.self.inside.counters c.add.new.counters).items
 
 abbrev next_keys : goal.After-self-3-1 → List (List (List ℕ))
 next_keys c = map view c.in_ok-keys.keys.items
@@ -52,8 +52,8 @@ taken c =
     let may = if_replay (MayTake c.args.self.now) c.args.reply.now r.job r.params r.items r.weight r.body r.is
     c.requires.reply in
     let counters_are : next_counters c ≡ plus old.counters.items (reply_in c).counters =
-    with_items_is old.counters c.add_into.new.a (omega arith)
-    ∙ (rw (c.deref_mut.ensures.value, c.as_slice.ensures) at c.add_into.ensures.value) in
+    with_items_is old.counters c.add.new.counters (omega arith)
+    ∙ (rw (c.deref_mut.ensures.value, c.as_slice.ensures) at c.add.ensures.value) in
     let keys_are : next_keys c ≡ zip2 united (map view old.keys.items) (reply_keys (reply_in c)) =
     rw (c.deref.ensures.value, c.as_slice-heaps.ensures) at c.in_ok-keys.ensures.value in
     let mark_is : c.joined_mark-self-inside.result ≡ (old.dropped || has_dropped (reply_in c)) =
