@@ -1,0 +1,10 @@
+use Rattle.std.proofs.Common.{◌≡◌, length, All, []}
+use Rattle.hash_family.specs.Setting.{setting_of}
+use Rattle.sketch_merge.specs.Merged.{View}
+use Rattle.sketch_merge.specs.Merging.{merged_view}
+use Rattle.replay_jobs.proofs.grouping.all_merged.Given as goal
+
+abbrev pub invariant-loop : goal.invariant-loop
+invariant-loop l =
+    (length l.merged.items ≡ l.counter)
+    × All (λ (view : View). view ≡ merged_view (setting_of l.params) 0 []) l.merged.items
