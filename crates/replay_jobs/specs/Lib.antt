@@ -1,4 +1,0 @@
-pub mod Grouped
-pub mod Replays
-pub mod ReplayJobs
-pub mod ReplayLaws
