@@ -1,5 +1,5 @@
 -- The shares of all epochs, behind a reply that was taken.
-use Rattle.std.proofs.Common.{◌≡◌, ◌⊎◌, ℕ, ◌+◌, ◌*◌, ◌<◌, ◌≤◌, ◌^◌, true, false, List, length, get_or, refl, sym, ◌∙◌, ap, subst, arith, inl, inr, length-set, All, IsTrue}
+use Rattle.std.proofs.Common.{◌≡◌, ◌⊎◌, ℕ, ◌+◌, ◌*◌, ◌<◌, ◌≤◌, false, List, length, get_or, refl, sym, ◌∙◌, ap, arith, inl, inr, length-set, All, IsTrue}
 use Rattle.std.specs.Prelude.{slice_set, sum_by}
 use Rattle.std.proofs.lemmas.Bool.{cases_eq, true≢false}
 use Rattle.std.proofs.lemmas.Bool.Decides.{nat_tests}
@@ -66,11 +66,11 @@ module _ (setting : Setting) (switches epoch switch : ℕ) (bytes : List ℕ) (o
       → (took : TookShare epoch job bytes old new merged after)
       → (with_reply (view_at merged epoch) took.reply).setting ≡ setting
       → All (AllUpTo (with_reply (view_at merged epoch) took.reply).weight)
-        (with_reply (view_at merged epoch) took.reply).counters
+      (with_reply (view_at merged epoch) took.reply).counters
       → (with_reply (view_at merged epoch) took.reply).weight
-        ≡ (view_at merged epoch).weight + (share_at old job).head.weight
+      ≡ (view_at merged epoch).weight + (share_at old job).head.weight
       → ((n : ℕ) → HaveUpTo n (view_at merged epoch).keys
-        → HaveUpTo (n + heap_limit) (with_reply (view_at merged epoch) took.reply).keys)
+      → HaveUpTo (n + heap_limit) (with_reply (view_at merged epoch) took.reply).keys)
       → AreEpochs setting switches old merged → AreEpochs setting switches new after
   fits_on known inside free took same small weighs grown fit =
       let size : length new ≡ length old =
@@ -91,12 +91,12 @@ module _ (setting : Setting) (switches epoch switch : ℕ) (bytes : List ℕ) (o
           ap (λ (shares : List Share). (share_at shares j).head.setting) took.shares
           ∙ ap (λ (n : ℕ). (share_at (slice_set old job (with_taken (share_at old job))) n).head.setting) here
           ∙ ap (λ (s : Share). s.head.setting)
-            (get_or-set_same old job (with_taken (share_at old job)) no_share known)
+          (get_or-set_same old job (with_taken (share_at old job)) no_share known)
           ∙ fit.settings job known
       heads j under (inr other) =
           ap (λ (shares : List Share). (share_at shares j).head.setting) took.shares
           ∙ ap (λ (s : Share). s.head.setting)
-            (get_or-set_other old job j (with_taken (share_at old job)) no_share other)
+          (get_or-set_other old job j (with_taken (share_at old job)) no_share other)
           ∙ fit.settings j under
 
       part : (e : ℕ) → e < length merged → (e ≡ epoch) ⊎ ((e ≡ epoch) → ⊥)

@@ -1,5 +1,5 @@
 -- The same of a job by its number.
-use Rattle.std.proofs.Common.{◌≡◌, ℕ, ◌+◌, ◌*◌, ◌/◌, ◌%◌, ◌<◌, ◌≤◌, Bool, true, false, List, Result, length, get_or, refl, sym, ◌∙◌, ap, subst, arith, All, IsTrue}
+use Rattle.std.proofs.Common.{◌≡◌, ℕ, ◌+◌, ◌*◌, ◌/◌, ◌%◌, ◌<◌, ◌≤◌, Bool, false, List, Result, length, refl, sym, ◌∙◌, ap, subst, arith, All}
 use Rattle.std.specs.Prelude.{slice_set}
 use Rattle.std.proofs.Math.Nat.{div-add-mod, div-lt_iff_lt-mul, mod-lt, mul_comm}
 use Rattle.std.proofs.lemmas.List.{get_or-set_same}
@@ -45,41 +45,41 @@ module _ (setting : Setting) (switches job : ℕ) (bytes : List ℕ) (old new : 
 
   pub took_job : (result : Result Bool Memory) → Takes epoch job bytes old new merged after result
       → Took job bytes (state_of switches old) (state_of switches new) (StandsFor setting switches old merged)
-        (StandsFor setting switches new after) result
+      (StandsFor setting switches new after) result
   took_job =
       subst (λ (j : ℕ). j < length old → (share_at old j).taken ≡ false → (share_at old j).head.setting ≡ setting
       → (result : Result Bool Memory) → Takes epoch j bytes old new merged after result
       → Took j bytes (state_of switches old) (state_of switches new) (StandsFor setting switches old merged)
-        (StandsFor setting switches new after) result)
+      (StandsFor setting switches new after) result)
       (cut_job job switches)
       (λ is open_ same. took_on setting switches epoch (job % switches) bytes old new merged after within is inside
-        fit.number open_ same)
+      fit.number open_ same)
       known free (fit.settings job known)
 
   fits_by : (took : TookShare epoch job bytes old new merged after)
       → (with_reply (view_at merged epoch) took.reply).setting ≡ setting
       → All (AllUpTo (with_reply (view_at merged epoch) took.reply).weight)
-        (with_reply (view_at merged epoch) took.reply).counters
+      (with_reply (view_at merged epoch) took.reply).counters
       → (with_reply (view_at merged epoch) took.reply).weight
-        ≡ (view_at merged epoch).weight + (share_at old job).head.weight
+      ≡ (view_at merged epoch).weight + (share_at old job).head.weight
       → ((n : ℕ) → HaveUpTo n (view_at merged epoch).keys
-        → HaveUpTo (n + heap_limit) (with_reply (view_at merged epoch) took.reply).keys)
+      → HaveUpTo (n + heap_limit) (with_reply (view_at merged epoch) took.reply).keys)
       → AreEpochs setting switches new after
   fits_by =
       subst (λ (j : ℕ). j < length old → (share_at old j).taken ≡ false
       → (took : TookShare epoch j bytes old new merged after)
       → (with_reply (view_at merged epoch) took.reply).setting ≡ setting
       → All (AllUpTo (with_reply (view_at merged epoch) took.reply).weight)
-        (with_reply (view_at merged epoch) took.reply).counters
+      (with_reply (view_at merged epoch) took.reply).counters
       → (with_reply (view_at merged epoch) took.reply).weight
-        ≡ (view_at merged epoch).weight + (share_at old j).head.weight
+      ≡ (view_at merged epoch).weight + (share_at old j).head.weight
       → ((n : ℕ) → HaveUpTo n (view_at merged epoch).keys
-        → HaveUpTo (n + heap_limit) (with_reply (view_at merged epoch) took.reply).keys)
+      → HaveUpTo (n + heap_limit) (with_reply (view_at merged epoch) took.reply).keys)
       → AreEpochs setting switches new after)
       (cut_job job switches)
       (λ is open_ took same small weighs grown.
-        fits_on setting switches epoch (job % switches) bytes old new merged after within is inside open_ took same small
-        weighs grown fit)
+      fits_on setting switches epoch (job % switches) bytes old new merged after within is inside open_ took same small
+      weighs grown fit)
       known free
 
   -- the shares fit behind a reply that was merged to this view

@@ -1,5 +1,5 @@
 -- The list of places that jobs stand for, behind a reply that was taken.
-use Rattle.std.proofs.Common.{◌≡◌, ◌⊎◌, ℕ, ◌+◌, ◌*◌, ◌<◌, true, false, List, Option, None, Some, length, get_or, refl, sym, ◌∙◌, ap, subst, arith, inl, inr, length-set}
+use Rattle.std.proofs.Common.{◌≡◌, ◌⊎◌, ℕ, ◌+◌, ◌*◌, ◌<◌, false, List, Option, None, Some, length, get_or, refl, sym, ◌∙◌, ap, arith, inl, inr, length-set}
 use Rattle.std.specs.Prelude.{slice_set}
 use Rattle.std.proofs.lemmas.Bool.{cases_eq, true≢false}
 use Rattle.std.proofs.lemmas.List.{get_or-set_other, get_or-set_same}
@@ -9,7 +9,7 @@ use Rattle.reply_format.specs.Reply.{ReplayReply}
 use Rattle.share_jobs.specs.Share.{Share, with_taken}
 use Rattle.sketch_merge.specs.Merged.{View}
 use Rattle.sketch_merge.specs.Merging.{with_reply}
-use Rattle.replay_places.specs.Epochs.{AreEpochs, IsPlace, StandsFor, TookShare, no_share, no_view, segment, share_at, view_at, view_of}
+use Rattle.replay_places.specs.Epochs.{IsPlace, StandsFor, TookShare, no_share, no_view, segment, share_at, view_at, view_of}
 use Rattle.replay_places.proofs.Places.{view_taken}
 use Rattle.replay_places.proofs.Segments.{segment_at, segment_length, segment_other, segment_set}
 

@@ -1,11 +1,11 @@
 -- Shares that have taken no reply stand for the list of empty places.
-use Rattle.std.proofs.Common.{◌≡◌, ℕ, ◌+◌, ◌*◌, ◌<◌, zero, suc, false, List, Option, None, length, get_or, replicate, refl, sym, ◌∙◌, ap, arith}
+use Rattle.std.proofs.Common.{◌≡◌, ℕ, ◌+◌, ◌*◌, zero, suc, false, List, Option, None, length, get_or, replicate, refl, sym, ◌∙◌, ap, arith}
 use Rattle.std.proofs.lemmas.List.{get_or-replicate, length-replicate}
 use Rattle.hash_family.specs.Setting.{Setting}
 use Rattle.reply_format.specs.Reply.{ReplayReply}
 use Rattle.share_jobs.specs.Share.{Share}
 use Rattle.sketch_merge.specs.Merged.{View}
-use Rattle.replay_places.specs.Epochs.{AreEpochs, IsPlace, StandsFor, no_share, segment, share_at}
+use Rattle.replay_places.specs.Epochs.{AreEpochs, StandsFor, no_share, segment, share_at}
 use Rattle.replay_places.proofs.Places.{none_viewed}
 use Rattle.replay_places.proofs.Segments.{segment_at, segment_length}
 
@@ -41,6 +41,6 @@ none_stands setting switches shares merged fit fresh =
           ap (λ (s : Share). s.taken) (segment_at switches epoch switch shares no_share (omega (arith, many)))
           ∙ fresh (epoch * switches + switch))
           ∙ sym (none_viewed setting part (λ switch inside.
-            segment_at switches epoch switch none None (omega (arith, sized))
-            ∙ at_none (length shares) (epoch * switches + switch)));
+          segment_at switches epoch switch none None (omega (arith, sized))
+          ∙ at_none (length shares) (epoch * switches + switch)));
     }

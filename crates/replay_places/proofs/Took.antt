@@ -1,17 +1,17 @@
 -- What a supervisor sees of jobs, behind a reply that was taken or refused.
-use Rattle.std.proofs.Common.{◌≡◌, ◌⊎◌, ℕ, ◌+◌, ◌*◌, ◌<◌, ◌==◌, ◌||◌, Bool, true, false, List, [], ◌∷◌, Result, Ok, Err, length, get_or, refl, sym, ◌∙◌, ap, subst, arith, inl, inr, length-set, if◌then◌else◌}
+use Rattle.std.proofs.Common.{◌≡◌, ◌⊎◌, ℕ, ◌+◌, ◌*◌, ◌<◌, ◌==◌, ◌||◌, Bool, true, false, List, [], ◌∷◌, Result, Ok, Err, length, sym, ◌∙◌, ap, subst, arith, inl, inr, length-set, if◌then◌else◌}
 use Rattle.std.specs.Prelude.{nat_lt, slice_set}
 use Rattle.std.proofs.lemmas.Bool.{cases_eq}
 use Rattle.std.proofs.lemmas.Bool.Decides.{nat_tests}
 use Rattle.std.proofs.lemmas.List.{get_or-set_other, get_or-set_same}
 use Rattle.hash_family.specs.Setting.{Setting}
 use Rattle.mon_io.specs.declared.fault.Memory.{Memory}
-use Rattle.replay_supervisor.specs.Jobs.{Places, Took, Work}
+use Rattle.replay_supervisor.specs.Jobs.{Took}
 use Rattle.share_jobs.proofs.Judged.{reply_good}
 use Rattle.share_jobs.specs.Reading.{is_good}
 use Rattle.share_jobs.specs.Share.{Share, with_taken}
 use Rattle.sketch_merge.specs.Merged.{View}
-use Rattle.replay_places.specs.Epochs.{StandsFor, Takes, TookShare, no_share, share_at}
+use Rattle.replay_places.specs.Epochs.{StandsFor, Takes, no_share, share_at}
 use Rattle.replay_places.specs.States.{state_of, work_of}
 use Rattle.replay_places.proofs.Stands.{stands_on}
 
@@ -72,7 +72,7 @@ module _ (setting : Setting) (switches epoch switch : ℕ) (bytes : List ℕ) (o
       → (share_at old job).taken ≡ false → (share_at old job).head.setting ≡ setting
       → (result : Result Bool Memory) → Takes epoch job bytes old new merged after result
       → Took job bytes (state_of switches old) (state_of switches new) (StandsFor setting switches old merged)
-        (StandsFor setting switches new after) result
+      (StandsFor setting switches new after) result
   took_on known inside number free same (Ok true) took = record {
     good = reply_good (share_at old job).head bytes
         (record { reply = took.reply; head_is = took.head_is; spelled = took.spelled });
@@ -81,13 +81,15 @@ module _ (setting : Setting) (switches epoch switch : ℕ) (bytes : List ℕ) (o
     list = λ places stood. stands_on setting switches epoch switch bytes old new merged after places within known inside
         number free same took stood;
   }
-  took_on known inside number free same (Ok false) took =
-      (took.0, record {
-        state = ap (state_of switches) took.1.0;
-        list = λ places stood. subst (λ (views : List View). StandsFor setting switches new views places)
-            (sym took.1.1)
-            (subst (λ (shares : List Share). StandsFor setting switches shares merged places) (sym took.1.0) stood);
-      })
+  took_on known inside number free same (Ok false) took = (
+    took.0,
+    record {
+      state = ap (state_of switches) took.1.0;
+      list = λ places stood. subst (λ (views : List View). StandsFor setting switches new views places)
+          (sym took.1.1)
+          (subst (λ (shares : List Share). StandsFor setting switches shares merged places) (sym took.1.0) stood);
+    },
+  )
   took_on known inside number free same (Err memory) took = record {
     state = ap (state_of switches) took.0;
     list = λ places stood. subst (λ (views : List View). StandsFor setting switches new views places)
