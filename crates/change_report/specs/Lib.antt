@@ -1,4 +1,4 @@
-pub mod Head
 pub mod Block
 pub mod Change
 pub mod Form
+pub mod Head
