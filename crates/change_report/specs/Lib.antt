@@ -1,2 +1,4 @@
 pub mod Block
 pub mod Change
+pub mod Form
+pub mod Head

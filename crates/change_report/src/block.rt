@@ -1,9 +1,10 @@
 //! The lines of an epoch.
-ghost use Rattle.std.specs.Prelude.{◌≡◌, ◌≤◌, ◌++◌, ℤ, IfOk, string_bytes};
+ghost use Rattle.std.specs.Prelude.{◌≡◌, ◌≤◌, ◌++◌, ℕ, ℤ, IfOk, string_bytes};
 ghost use Rattle.recursive_sum.specs.Sum.{recursive_sum};
 ghost use Rattle.recursive_sum.specs.declared.measure.G.TheVariants.{One, Value};
 ghost use Rattle.change_report.specs.Block.{block_text, cardinality_line, epoch_line, heavy_line, heavy_lines};
 ghost use Rattle.change_report.specs.Block.{level_line, level_lines, total_line};
+ghost use Rattle.change_report.specs.Form.{Brief, epoch_block};
 
 use crate::LevelCount;
 use flow_keys::{FlowKey, key_text};
@@ -36,6 +37,25 @@ pub fn epoch_text(
     }
 }
 
+/// The few lines of an epoch of this number and with so many packets: those of `epoch_text` without its levels and its
+/// heavy keys. The family is that of the sketches. It takes memory for the text.
+#[tactic(auto, unfolding(crate::specs::Form::epoch_block))]
+pub fn brief_epoch_text(
+    alloc: Global,
+    family: &Family,
+    epoch: u8,
+    packets: u32,
+    merged: &Merged,
+) -> Result<String, Memory>
+    ensures text { IfOk result (λ text. (heavy : ℕ) →
+        string_bytes text ≡ epoch_block Brief family.now heavy epoch packets merged.now) }
+{
+    match brief_block(alloc, family, epoch, packets, merged) {
+        Ok(text) => Ok(text),
+        Err(_) => Err(Memory),
+    }
+}
+
 // The lines of an epoch with these heavy keys.
 fn block(
     alloc: Global,
@@ -53,10 +73,26 @@ fn block(
 {
     let head = head_text(alloc, epoch, packets, merged)?;
     let levels = levels_text(alloc, levels)?;
-    let cardinality = cardinality_text(alloc, g_sum(family, merged, G::One))?;
-    let total = total_text(alloc, g_sum(family, merged, G::Value))?;
+    let measures = measures_text(alloc, family, merged)?;
     let keys = keys_text(alloc, keys)?;
-    format!(in alloc; "{head}{levels}{cardinality}{total}{keys}")
+    format!(in alloc; "{head}{levels}{measures}{keys}")
+}
+
+// The lines of an epoch that name no level and no key.
+fn brief_block(
+    alloc: Global,
+    family: &Family,
+    epoch: u8,
+    packets: u32,
+    merged: &Merged,
+) -> Result<String, AllocError>
+    ensures text { IfOk result (λ text. string_bytes text
+        ≡ epoch_line epoch packets merged.now ++ (cardinality_line (recursive_sum family.now One merged.now)
+        ++ total_line (recursive_sum family.now Value merged.now))) }
+{
+    let head = head_text(alloc, epoch, packets, merged)?;
+    let measures = measures_text(alloc, family, merged)?;
+    format!(in alloc; "{head}{measures}")
 }
 
 #[tactic(auto, unfolding(crate::specs::Block::epoch_line, crate::specs::Block::mark_text))]
@@ -93,6 +129,17 @@ fn level_text(alloc: Global, level: usize, count: &LevelCount) -> Result<String,
     format!(in alloc;
         "level {level} packets {packets} weight {weight} keys {keys} nonzero {nonzero}\n"
     )
+}
+
+// The lines of the number of keys and of the weight, by the recursive sum.
+fn measures_text(alloc: Global, family: &Family, merged: &Merged) -> Result<String, AllocError>
+    ensures text { IfOk result (λ text. string_bytes text
+        ≡ cardinality_line (recursive_sum family.now One merged.now)
+        ++ total_line (recursive_sum family.now Value merged.now)) }
+{
+    let cardinality = cardinality_text(alloc, g_sum(family, merged, G::One))?;
+    let total = total_text(alloc, g_sum(family, merged, G::Value))?;
+    format!(in alloc; "{cardinality}{total}")
 }
 
 #[tactic(auto, unfolding(crate::specs::Block::cardinality_line))]

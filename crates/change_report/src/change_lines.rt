@@ -1,13 +1,15 @@
 //! The lines of a change.
-ghost use Rattle.std.specs.Prelude.{◌≡◌, ◌≤◌, ◌<◌, ◌^◌, ◌++◌, ℤ, All, IfOk, string_bytes};
+ghost use Rattle.std.specs.Prelude.{◌≡◌, ◌≤◌, ◌<◌, ◌^◌, ◌++◌, ℕ, ℤ, All, IfOk, string_bytes};
 ghost use Rattle.count_sketch.specs.Counters.{AllUpTo};
 ghost use Rattle.sketch_merge.specs.Merged.{HaveUpTo};
 ghost use Rattle.change_report.specs.Change.{change_line, change_lines, changed_line, changed_lines, key_limit};
+ghost use Rattle.change_report.specs.Form.{Brief, change_block};
 
 use crate::changes::change;
 use flow_keys::{FlowKey, key_text};
 use hash_family::Family;
 use mon_io::Memory;
+use recursive_sum::{G, g_sum};
 use sketch_merge::Merged;
 use std::alloc::{AllocError, Global};
 
@@ -33,6 +35,31 @@ pub fn change_text(
 {
     let (total, keys) = change(alloc, family, before, after, per_mille)?;
     match lines(alloc, epoch, total, &keys) {
+        Ok(text) => Ok(text),
+        Err(_) => Err(Memory),
+    }
+}
+
+/// The one line of the change to the epoch of this number, which is above 0, from the one before: that of
+/// `change_text` with the sum of the changes. Both have the same numbers and no absolute counter above 2^44; the family
+/// is that of the sketches. It takes memory for the text and for the difference.
+#[tactic(auto, unfolding(crate::specs::Form::change_block))]
+pub fn brief_change_text(
+    alloc: Global,
+    family: &Family,
+    epoch: u8,
+    before: &Merged,
+    after: &Merged,
+) -> Result<String, Memory>
+    requires epoch { 0 < epoch }
+    requires setting { after.now.setting ≡ before.now.setting }
+    requires small { All (AllUpTo (2 ^ 44)) after.now.counters }
+    requires before_small { All (AllUpTo (2 ^ 44)) before.now.counters }
+    ensures text { IfOk result (λ text. (heavy : ℕ) →
+        string_bytes text ≡ change_block Brief family.now heavy epoch before.now after.now) }
+{
+    let less = after.minus(alloc, before)?;
+    match head_text(alloc, epoch, g_sum(family, &less, G::Abs)) {
         Ok(text) => Ok(text),
         Err(_) => Err(Memory),
     }

@@ -1,5 +1,5 @@
 -- The text of `central`.
-use Rattle.std.specs.Prelude.{ℤ, pos, ℕ, ◌+◌, ◌-◌, ◌==◌, ◌&&◌, not, max, Bool, List, [], ◌++◌, length, map, count_by, Option, codes, decimal, if◌then◌else◌}
+use Rattle.std.specs.Prelude.{ℤ, pos, ℕ, ◌+◌, ◌-◌, ◌==◌, ◌&&◌, not, max, Bool, List, [], ◌++◌, length, map, count_by, Option, codes, if◌then◌else◌}
 use Rattle.std.specs.List.{flat_map, list_any, range_with_len}
 use Rattle.std.specs.Ordering.{int_eq}
 use Rattle.hash_family.specs.Setting as sketch
@@ -9,6 +9,7 @@ use Rattle.sketch_levels.specs.Kept as levels
 use Rattle.sketch_merge.specs.Merged.{View}
 use Rattle.change_report.specs.Block.{block_text}
 use Rattle.change_report.specs.Change.{change_lines}
+use Rattle.change_report.specs.Head.{counts_line, sketch_line}
 use Rattle.change_report.specs.declared.level_count.LevelCount.{LevelCount}
 use Rattle.pcap_reader.specs.declared.header.Header.{Header}
 use Rattle.pcap_reader.specs.Trace.{Record}
@@ -59,35 +60,15 @@ unfoldable pub drops : Setting → List Item → Bool
 drops setting items = not (setting.heap == 0) && list_any (λ mark. mark)
     (map (mark_at setting items) (range_with_len 0 (setting.levels + 1)))
 
--- how many keys a level keeps
-unfoldable pub heap_text : ℕ → List ℕ
-heap_text heap = if heap == 0 then codes "all" else decimal heap
-
--- the line of the packets: how many there are, how many have a key, and how many have a path
-unfoldable pub counts_line : ℕ → ℕ → ℕ → List ℕ
-counts_line packets keyed routed =
-    codes "packets " ++ (decimal packets ++ (codes " keyed "
-    ++ (decimal keyed ++ (codes " routed " ++ (decimal routed ++ codes "\n")))))
-
--- what a packet counts
-unfoldable pub weight_word : Bool → List ℕ
-weight_word bytes = if bytes then codes "bytes" else codes "packets"
-
--- the numbers of the counters
-unfoldable pub counter_words : Setting → List ℕ
-counter_words setting =
-    codes "sketch seed " ++ (decimal setting.seed ++ (codes " levels " ++ (decimal setting.levels
-    ++ (codes " rows " ++ (decimal setting.rows ++ (codes " width " ++ decimal setting.width))))))
-
--- how many keys a level keeps, and what a packet counts
-unfoldable pub kept_words : Setting → List ℕ
-kept_words setting =
-    codes " heap " ++ (heap_text setting.heap ++ (codes " weight "
-    ++ (weight_word setting.division.bytes ++ codes "\n")))
-
--- the line of the sketch's numbers
-unfoldable pub sketch_line : Setting → List ℕ
-sketch_line setting = counter_words setting ++ kept_words setting
+-- the numbers of the sketch as its line says them, where a heap of 0 keeps every live key
+abbrev pub line_setting : Setting → sketch.Setting
+line_setting setting = record {
+  levels = setting.levels;
+  rows = setting.rows;
+  width = setting.width;
+  heap = setting.heap;
+  seed = setting.seed;
+}
 
 -- the counters and keys of each level, of the items that are live there, and the mark of the heaps
 unfoldable pub central_view : Setting → List Item → View
@@ -125,7 +106,7 @@ epochs_lines setting routed number = flat_map (epoch_lines setting routed) (rang
 unfoldable pub lines_of : Setting → ℕ → ℕ → ℕ → List ℕ → List ℕ
 lines_of setting packets keyed routed epochs =
     codes "univmon central 1\n" ++ (counts_line packets keyed routed
-    ++ (sketch_line setting ++ (epochs ++ codes "end\n")))
+    ++ (sketch_line (line_setting setting) setting.division.bytes ++ (epochs ++ codes "end\n")))
 
 -- the text of a trace
 unfoldable pub central_text : Setting → Option Topo → Header → List Record → List ℕ

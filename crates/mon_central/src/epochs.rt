@@ -121,9 +121,6 @@ impl Epochs {
             Divides setting.now topology self.now header members → string_bytes text ≡ central_text setting.now topology header members) }
     {
         let epochs = epochs_text(alloc, setting, &self.sketches)?;
-        match text_of(alloc, setting, &self.counts, &epochs) {
-            Ok(text) => Ok(text),
-            Err(_) => Err(Memory),
-        }
+        text_of(alloc, setting, &self.counts, &epochs)
     }
 }

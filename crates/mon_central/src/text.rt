@@ -1,10 +1,13 @@
 //! The text of `central`, but for the lines of its epochs.
 ghost use Rattle.std.specs.Prelude.{◌≡◌, ◌++◌, codes, IfOk, string_bytes};
-ghost use Rattle.mon_central.specs.Central.{counter_words, counts_line, heap_text, kept_words, lines_of, sketch_line, weight_word};
+ghost use Rattle.change_report.specs.Head.{counts_line, setting_in, sketch_line};
+ghost use Rattle.mon_central.specs.Central.{line_setting, lines_of};
 
+use change_report::{SketchNumbers, counts_text, sketch_text};
 use mon_call::Setting;
+use mon_io::Memory;
 use routed_trace::TraceCounts;
-use std::alloc::{AllocError, Global};
+use std::alloc::Global;
 
 /// The text of the numbers of packets, of those that have a key and of those that have a path, and of the lines of
 /// the epochs.
@@ -14,66 +17,26 @@ pub(crate) fn text_of(
     setting: &Setting,
     counts: &TraceCounts,
     epochs: &str,
-) -> Result<String, AllocError>
-    ensures { IfOk result (λ text. string_bytes text ≡ lines_of setting.now counts.now.packets counts.now.keyed counts.now.routed epochs.now) }
+) -> Result<String, Memory>
+    ensures text { IfOk result (λ text. string_bytes text ≡ lines_of setting.now counts.now.packets counts.now.keyed counts.now.routed epochs.now) }
 {
     let counts = counts_text(alloc, counts.packets, counts.keyed, counts.routed)?;
-    let sketch = sketch_text(alloc, setting)?;
-    format!(in alloc; "univmon central 1\n{counts}{sketch}{epochs}end\n")
-}
-
-#[tactic(auto, unfolding(crate::specs::Central::counts_line))]
-fn counts_text(alloc: Global, packets: u32, keyed: u32, routed: u32) -> Result<String, AllocError>
-    ensures { IfOk result (λ text. string_bytes text ≡ counts_line packets keyed routed) }
-{
-    format!(in alloc; "packets {packets} keyed {keyed} routed {routed}\n")
-}
-
-#[tactic(auto, unfolding(crate::specs::Central::sketch_line))]
-fn sketch_text(alloc: Global, setting: &Setting) -> Result<String, AllocError>
-    ensures { IfOk result (λ text. string_bytes text ≡ sketch_line setting.now) }
-{
-    let counters = counter_text(alloc, setting)?;
-    let kept = kept_text(alloc, setting)?;
-    format!(in alloc; "{counters}{kept}")
-}
-
-// The numbers of the counters.
-#[tactic(auto, unfolding(crate::specs::Central::counter_words))]
-fn counter_text(alloc: Global, setting: &Setting) -> Result<String, AllocError>
-    ensures { IfOk result (λ text. string_bytes text ≡ counter_words setting.now) }
-{
-    let (seed, levels) = (setting.seed, setting.levels);
-    let (rows, width) = (setting.rows, setting.width);
-    format!(in alloc; "sketch seed {seed} levels {levels} rows {rows} width {width}")
-}
-
-// How many keys a level keeps, and what a packet counts.
-#[tactic(auto, unfolding(crate::specs::Central::kept_words))]
-fn kept_text(alloc: Global, setting: &Setting) -> Result<String, AllocError>
-    ensures { IfOk result (λ text. string_bytes text ≡ kept_words setting.now) }
-{
-    let heap = heap_text(alloc, setting.heap)?;
-    let weight = weight_word(setting.division.bytes);
-    format!(in alloc; " heap {heap} weight {weight}\n")
-}
-
-// How many keys a level keeps: `all` for 0.
-#[tactic(auto, unfolding(crate::specs::Central::heap_text))]
-fn heap_text(alloc: Global, heap: u16) -> Result<String, AllocError>
-    ensures { IfOk result (λ text. string_bytes text ≡ heap_text heap) }
-{
-    if heap == 0 {
-        String::from_str(alloc, "all")
-    } else {
-        format!(in alloc; "{heap}")
+    let sketch = sketch_text(alloc, numbers_of(setting), setting.division.bytes)?;
+    match format!(in alloc; "univmon central 1\n{counts}{sketch}{epochs}end\n") {
+        Ok(text) => Ok(text),
+        Err(_) => Err(Memory),
     }
 }
 
-// What a packet counts.
-#[tactic(auto, unfolding(crate::specs::Central::weight_word))]
-fn weight_word(bytes: bool) -> &'static str
-    ensures { result.now ≡ weight_word bytes }
+// The numbers of the sketch.
+fn numbers_of(setting: &Setting) -> SketchNumbers
+    ensures value { setting_in result ≡ line_setting setting.now }
 {
-    if bytes { "bytes" } else { "packets" }
+    SketchNumbers {
+        seed: setting.seed,
+        levels: setting.levels,
+        rows: setting.rows,
+        width: setting.width,
+        heap: setting.heap,
+    }
 }

@@ -1,12 +1,16 @@
 -- Counters cut level by level.
 use Rattle.std.proofs.Common.{◌≡◌, ℕ, zero, suc, ◌+◌, ◌*◌, ◌<◌, ◌≤◌, unsigned_abs, List, [], ◌∷◌, ◌++◌, length, map}
-use Rattle.std.proofs.Common.{take, drop, ℤ, refl, sym, ◌∙◌, ap, arith, length-append}
-use Rattle.std.specs.List.{All, flat_map}
-use Rattle.std.proofs.lemmas.List.{append-nil, append_assoc, map_push, drop_at, length-drop, length-take-le}
-use Rattle.std.proofs.lemmas.List.{nil_from_length, take-append-drop, take_at}
-use Rattle.std.proofs.lemmas.List.Elements.{All-cons, All-drop, All-head, All-nil, All-tail, All-take}
+use Rattle.std.proofs.Common.{take, drop, get_or, ℤ, pos, refl, sym, ◌∙◌, ap, subst, arith, length-append}
+use Rattle.std.specs.List.{All, flat_map, range_with_len}
+use Rattle.std.specs.Simd.Lanes.{zip2}
+use Rattle.std.proofs.Math.Nat.{mul-le-mul_left}
+use Rattle.std.proofs.lemmas.List.{drop_at, drop-drop, ext_get_or, get_or-drop, get_or-take, length-drop}
+use Rattle.std.proofs.lemmas.List.{length-take-le, nil_from_length, take-append-drop, take_at}
+use Rattle.std.proofs.lemmas.List.Elements.{All-append, All-cons, All-drop, All-head, All-nil, All-tail, All-take}
+use Rattle.std.proofs.lemmas.List.FromFn.{get_or-map-range_with_len, length-map-range_with_len}
 use Rattle.count_sketch.specs.Counters.{AllUpTo}
 use Rattle.sketch_merge.specs.Levels.{levels_of}
+use Rattle.sketch_merge.proofs.Zipped.{drop-zip2, take-zip2}
 
 pub length-levels_of : (levels size : ℕ) (counters : List ℤ) → length (levels_of levels size counters) ≡ levels
 unfolding levels_of
@@ -49,6 +53,24 @@ joined-levels_of (suc levels) size counters whole =
     (joined-levels_of levels size (drop size counters) (left_length levels size counters whole))
     ∙ take-append-drop size counters
 
+-- a bound on each level's counters is one on all
+pub flat_bound-levels_of : (n levels size : ℕ) (counters : List ℤ) → length counters ≡ levels * size
+    → All (AllUpTo n) (levels_of levels size counters) → AllUpTo n counters
+unfolding levels_of
+flat_bound-levels_of n zero size counters whole small =
+    let Small : ℤ → Type 0 = λ value. unsigned_abs value ≤ n in
+    record { each = subst (All Small) (sym (nil_from_length counters (omega arith))) (All-nil Small) }
+flat_bound-levels_of n (suc levels) size counters whole small =
+    let Small : ℤ → Type 0 = λ value. unsigned_abs value ≤ n in
+    let others : List (List ℤ) = levels_of levels size (drop size counters) in
+    let first = All-head (AllUpTo n) (take size counters) others small in
+    let rest = flat_bound-levels_of n levels size (drop size counters) (left_length levels size counters whole)
+    (All-tail (AllUpTo n) (take size counters) others small) in
+    record {
+      each = subst (All Small) (take-append-drop size counters)
+          (All-append Small (take size counters) (drop size counters) first.each rest.each);
+    }
+
 -- parts of the size that lie one after another are the levels
 pub parts-levels_of : (levels size : ℕ) (parts : List (List ℤ)) → 0 < size
     → length (flat_map (λ part. part) parts) ≡ levels * size → All (λ part. length part ≡ size) parts
@@ -68,38 +90,64 @@ parts-levels_of (suc levels) size (part ∷ parts) some whole each =
     (ap (λ (rest : List (List ℤ)). part ∷ rest)
     (parts-levels_of levels size parts some left (All-tail P part parts each)))
 
--- ---- cut from the front on
+-- ---- a level by its number
 
-levels_of-more : (left next size : ℕ) (rest : List ℤ) → left ≡ suc next
-    → levels_of left size rest ≡ take size rest ∷ levels_of next size (drop size rest)
+-- a level ends where all counters do, or before
+pub level_room : (level levels size : ℕ) → level < levels → level * size + size ≤ levels * size
+level_room level levels size within =
+    let next : level + 1 ≤ levels = omega arith in
+    omega (arith, mul-le-mul_left size next)
+
+pub level-levels_of : (levels size level : ℕ) (counters : List ℤ) → level < levels
+    → get_or (levels_of levels size counters) level [] ≡ take size (drop (level * size) counters)
 unfolding levels_of
-levels_of-more left next size rest more = rw more refl
+level-levels_of zero size level counters within = absurd (omega arith)
+level-levels_of (suc levels) size zero counters within =
+    let none : zero * size ≡ 0 = omega arith in
+    ap (λ (n : ℕ). take size (drop n counters)) (sym none)
+level-levels_of (suc levels) size (suc level) counters within =
+    let behind : size + level * size ≡ suc level * size = omega arith in
+    level-levels_of levels size level (drop size counters) (omega arith)
+    ∙ ap (take size) (drop-drop (level * size) size counters
+    ∙ ap (λ (n : ℕ). drop n counters) behind)
 
--- the counters behind one level more
-pub left_more : (left next size : ℕ) (rest others : List ℤ) → left ≡ next + 1 → length rest ≡ left * size
-    → length others + size ≡ length rest → length others ≡ next * size
-left_more left next size rest others more whole parts =
-    let all : length rest ≡ (next + 1) * size = whole ∙ ap (λ (n : ℕ). n * size) more in
-    omega arith
+-- ---- numbers that are made place by place
 
--- the levels that were cut, with one more, and what is left
-pub cut_more : {V : Type 0} (view : V
-    → List ℤ) (all : List V) (level : V) (left next size : ℕ) (rest others : List ℤ) (whole : List (List ℤ))
-    → left ≡ next + 1 → view level ≡ take size rest → others ≡ drop size rest
-    → map view all ++ levels_of left size rest ≡ whole
-    → map view (all ++ level ∷ []) ++ levels_of next size others ≡ whole
-cut_more view all level left next size rest others whole more first back so_far =
-    ap (λ (front : List (List ℤ)). front ++ levels_of next size others) (map_push view all level)
-    ∙ append_assoc (map view all) (view level ∷ []) (levels_of next size others)
-    ∙ ap (λ (part : List ℤ). map view all ++ part ∷ levels_of next size others) first
-    ∙ ap (λ (behind : List ℤ). map view all ++ take size rest ∷ levels_of next size behind) back
-    ∙ ap (λ (levels : List (List ℤ)). map view all ++ levels)
-    (sym (levels_of-more left next size rest (omega (arith, more))))
-    ∙ so_far
+part_made : (f : ℕ → ℤ) (from size whole : ℕ) → from + size ≤ whole
+    → take size (drop from (map f (range_with_len 0 whole))) ≡ map f (range_with_len from size)
+part_made f from size whole room =
+    let all : List ℤ = map f (range_with_len 0 whole) in
+    let number : length all ≡ whole = length-map-range_with_len f 0 whole in
+    let cut : length (take size (drop from all)) ≡ size =
+    length-take-le size (drop from all) (omega (arith, number, length-drop from all)) in
+    ext_get_or (pos 0) _ _ (cut ∙ sym (length-map-range_with_len f from size)) (λ place below.
+    let within : place < size = omega (arith, cut) in
+    get_or-take size (drop from all) place (pos 0) within
+    ∙ get_or-drop from all place (pos 0)
+    ∙ get_or-map-range_with_len f 0 whole (from + place) (from + place) (pos 0) (omega arith) (omega arith)
+    ∙ sym (get_or-map-range_with_len f from size place (from + place) (pos 0) within refl))
 
--- all levels were cut
-pub cut_all : {V : Type 0} (view : V → List ℤ) (all : List V) (left size : ℕ) (rest : List ℤ) (whole : List (List ℤ))
-    → left ≡ 0 → map view all ++ levels_of left size rest ≡ whole → map view all ≡ whole
+pub made-levels_of : (f : ℕ → ℤ) (levels size : ℕ)
+    → levels_of levels size (map f (range_with_len 0 (levels * size)))
+    ≡ map (λ level. map f (range_with_len (level * size) size)) (range_with_len 0 levels)
+made-levels_of f levels size =
+    let all : List ℤ = map f (range_with_len 0 (levels * size)) in
+    let made : ℕ → List ℤ = λ level. map f (range_with_len (level * size) size) in
+    let number = length-levels_of levels size all in
+    ext_get_or [] _ _ (number ∙ sym (length-map-range_with_len made 0 levels)) (λ level below.
+    let within : level < levels = omega (arith, number) in
+    level-levels_of levels size level all within
+    ∙ part_made f (level * size) size (levels * size) (level_room level levels size within)
+    ∙ sym (get_or-map-range_with_len made 0 levels level level [] within (omega arith)))
+
+-- ---- place by place
+
+-- the levels of f of two lists are those of f of their levels
+pub zip2-levels_of : (f : ℤ → ℤ → ℤ) (levels size : ℕ) (xs ys : List ℤ)
+    → levels_of levels size (zip2 f xs ys) ≡ zip2 (zip2 f) (levels_of levels size xs) (levels_of levels size ys)
 unfolding levels_of
-cut_all view all left size rest whole none so_far =
-    sym (append-nil (map view all)) ∙ (rw none at so_far)
+zip2-levels_of f zero size xs ys = refl
+zip2-levels_of f (suc levels) size xs ys =
+    (λ i. take-zip2 f size xs ys i ∷ levels_of levels size (drop-zip2 f size xs ys i))
+    ∙ ap (λ (rest : List (List ℤ)). zip2 f (take size xs) (take size ys) ∷ rest)
+    (zip2-levels_of f levels size (drop size xs) (drop size ys))

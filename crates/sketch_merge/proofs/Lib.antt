@@ -1,7 +1,10 @@
+pub mod Additions
 pub mod Begins
 pub mod LevelLists
 pub mod Members
 pub mod Order
+pub mod Replies
+pub mod Taken
 pub mod Unions
 pub mod Zipped
 pub mod Views

@@ -1,8 +1,13 @@
 -- Which keys are in a union.
 use Rattle.std.proofs.Common.{◌≡◌, ◌↔◌, ◌⊎◌, ℕ, ◌||◌, Bool, true, false, inl, inr, List, refl, sym, ◌∙◌, ap}
 use Rattle.std.specs.List.{Contains, list_any}
+use Rattle.std.specs.BTreeSet.{BTreeSet}
 use Rattle.std.specs.Cmp.{eq_by_cmp_equiv}
+use Rattle.std.specs.Cmp.Lexicographic.{slice_cmp}
+use Rattle.std.specs.List.Sorted.{IsStrictlySortedBy}
+use Rattle.std.specs.Ordering.{nat_cmp}
 use Rattle.std.proofs.lemmas.Cmp.{nat_list_cmp_total}
+use Rattle.std.proofs.lemmas.Map.Lookups.{btree_set_from_contains, exact_bytes}
 use Rattle.std.proofs.lemmas.Map.Views.{Contains-from_any, list_any-from_Contains}
 use Rattle.sketch_merge.specs.Merged.{united}
 use Rattle.flow_keys.proofs.KeySets.{any-fold, same, same_is}
@@ -15,7 +20,7 @@ or_right : (a b : Bool) → b ≡ true → (a || b) ≡ true
 or_right true b h = refl
 or_right false b h = h
 
-any-united : (q : List ℕ) (keys more : List (List ℕ))
+pub any-united : (q : List ℕ) (keys more : List (List ℕ))
     → list_any (same q) (united keys more) ≡ (list_any (same q) keys || list_any (same q) more)
 unfolding united
 any-united q keys more = any-fold q keys more
@@ -38,3 +43,11 @@ members keys more key =
         | inr there ↦ or_right one two (found key more there)
       ]),
     )
+
+-- ascending lists with the same keys are one list
+pub same_keys : (xs ys : List (List ℕ)) → IsStrictlySortedBy (slice_cmp nat_cmp) xs
+    → IsStrictlySortedBy (slice_cmp nat_cmp) ys → ((q : List ℕ) → list_any (same q) xs ≡ list_any (same q) ys) → xs ≡ ys
+same_keys xs ys ascending also each =
+    let one : BTreeSet (List ℕ) = record { keys = xs } in
+    let two : BTreeSet (List ℕ) = record { keys = ys } in
+    btree_set_from_contains nat_list_cmp_total one two ascending also each exact_bytes

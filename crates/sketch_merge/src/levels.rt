@@ -1,41 +1,12 @@
 //! Counters that lie one level after another.
-ghost use Rattle.std.specs.Prelude.{◌≡◌, ◌*◌, map, length, IfOk};
-ghost use Rattle.sketch_merge.specs.Levels.{levels_of};
+ghost use Rattle.std.specs.Prelude.{◌≡◌, ◌≤◌, ◌+◌, ◌*◌, drop, length, take};
 
-use mon_io::Memory;
-use std::alloc::Global;
-
-// So many levels of counters, of one size each.
-pub(crate) fn levels_of(
-    alloc: Global,
-    counters: &[i64],
-    levels: usize,
-    size: usize,
-) -> Result<Vec<Vec<i64>>, Memory>
-    requires { length counters.now ≡ levels * size }
-    ensures value { IfOk result (λ all. map (λ level. level.items) all.items ≡ levels_of levels size counters.now) }
+// The counters of a level, where each level has so many.
+#[inline]
+pub(crate) fn level_of(counters: &[i64], level: usize, size: usize) -> &[i64]
+    requires { (level + 1) * size ≤ length counters.now }
+    ensures value { result.now ≡ take size (drop (level * size) counters.now) }
 {
-    let Ok(mut all) = Vec::with_capacity(alloc, levels) else {
-        return Err(Memory);
-    };
-    let mut rest = counters;
-    for _ in 0..levels {
-        let (first, others) = rest.split_at(size);
-        let level = copied(alloc, first)?;
-        if all.push(level).is_err() {
-            return Err(Memory);
-        }
-        rest = others;
-    }
-    Ok(all)
-}
-
-// The same counters in memory of their own.
-fn copied(alloc: Global, counters: &[i64]) -> Result<Vec<i64>, Memory>
-    ensures value { IfOk result (λ copy. copy.items ≡ counters.now) }
-{
-    match counters.to_vec(alloc) {
-        Ok(copy) => Ok(copy),
-        Err(_) => Err(Memory),
-    }
+    let start = level * size;
+    &counters[start..start + size]
 }

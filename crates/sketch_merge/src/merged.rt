@@ -1,5 +1,6 @@
 //! Merged sketches.
-ghost use Rattle.std.specs.Prelude.{◌≡◌, ◌≤◌, ◌+◌, ◌*◌, ◌^◌, ℕ, ℤ, List, length, map, All, IfOk, unsigned_abs};
+ghost use Rattle.std.specs.Prelude.{◌≡◌, ◌≤◌, ◌+◌, ◌*◌, ◌^◌, ℕ, ℤ, List, [], length, map, All, IfOk, OnErr};
+ghost use Rattle.std.specs.Prelude.{unsigned_abs};
 ghost use Rattle.std.specs.List.{flat_map};
 ghost use Rattle.std.specs.Cmp.Lexicographic.{slice_cmp};
 ghost use Rattle.std.specs.Ordering.{nat_cmp};
@@ -8,15 +9,21 @@ ghost use Rattle.hash_family.specs.Limits.{most_counters};
 ghost use Rattle.hash_family.specs.Setting.{setting_of};
 ghost use Rattle.count_sketch.specs.Counters.{AllUpTo};
 ghost use Rattle.count_sketch.specs.Estimate.{estimate};
+ghost use Rattle.reply_format.specs.Reply.{reply_of};
 ghost use Rattle.sketch_merge.specs.Merged.{HaveUpTo, IsView, counters_at, difference, keys_at};
+ghost use Rattle.sketch_merge.specs.Merging.{IfReplay, MayTake, merged_view, with_reply};
 
-use crate::levels::levels_of;
-use crate::subtraction::subtracted_levels;
-use crate::union::unions;
+use crate::addition::add;
+use crate::levels::level_of;
+use crate::marks::joined_mark;
+use crate::nothing::{no_keys, zeros};
+use crate::subtraction::subtracted;
+use crate::union::{unions, unions_with_heaps};
 use count_sketch::estimate_in;
 use flow_keys::FlowKey;
 use hash_family::{Family, Params};
 use mon_io::Memory;
+use reply_format::Reply;
 use std::alloc::Global;
 use std::marker::Model;
 
@@ -25,7 +32,8 @@ use std::marker::Model;
 #[derive(Drop)]
 pub struct Merged {
     params: Params,
-    counters: Vec<Vec<i64>>,
+    // In order of level, row and bucket.
+    counters: Vec<i64>,
     keys: Vec<Vec<FlowKey>>,
     dropped: bool,
     weight: u64,
@@ -34,33 +42,43 @@ pub struct Merged {
 impl Model for Merged {
     ghost use Rattle.std.specs.Prelude.{map};
     ghost use Rattle.hash_family.specs.Setting.{setting_of};
-    ghost use Rattle.sketch_merge.specs.Merged.{View, IsView};
+    ghost use Rattle.sketch_merge.specs.Merged.{View};
+    ghost use Rattle.sketch_merge.specs.Stored.{IsStored, stored_view};
 
     ghost Value = { View };
 
-    ghost view = { λ all. record {
-      setting = setting_of all.params;
-      weight = all.weight;
-      counters = map (λ level. level.items) all.counters.items;
-      keys = map (λ level. level.items) all.keys.items;
-      dropped = all.dropped;
-    } };
+    ghost view = { λ all.
+        stored_view (setting_of all.params) all.counters.items (map (λ level. level.items) all.keys.items)
+        all.dropped all.weight };
 
-    ghost invariant = { λ all. IsView (record {
-      setting = setting_of all.params;
-      weight = all.weight;
-      counters = map (λ level. level.items) all.counters.items;
-      keys = map (λ level. level.items) all.keys.items;
-      dropped = all.dropped;
-    }) };
+    ghost invariant = { λ all.
+        IsStored (setting_of all.params) all.counters.items (map (λ level. level.items) all.keys.items) };
 }
 
 impl Merged {
+    /// Merged sketches of nothing: each counter 0, no key named, none dropped, weight 0. It takes memory for the
+    /// counters and for a list of keys a level.
+    pub fn new(alloc: Global, params: Params) -> Result<Merged, Memory>
+        ensures value { IfOk result (λ merged. merged ≡ merged_view (setting_of params) 0 []) }
+        ensures small { IfOk result (λ merged. All (AllUpTo merged.weight) merged.counters) }
+        ensures few { IfOk result (λ merged. HaveUpTo 0 merged.keys) }
+    {
+        let levels = usize::from(params.levels) + 1;
+        let size = usize::from(params.rows) * usize::from(params.width);
+        Ok(Merged {
+            params,
+            counters: zeros(alloc, levels * size)?,
+            keys: no_keys(alloc, levels)?,
+            dropped: false,
+            weight: 0,
+        })
+    }
+
     /// Merged sketches of these numbers, from level 0 on: the counters in order of level, row and bucket, none of an
     /// absolute value above the weight, which is at most 2^44; the keys of each level in strictly ascending order.
-    /// It takes memory for the counters of each level.
+    /// It takes no memory.
     pub fn from_levels(
-        alloc: Global,
+        _alloc: Global,
         params: Params,
         counters: Vec<i64>,
         keys: Vec<Vec<FlowKey>>,
@@ -83,8 +101,6 @@ impl Merged {
         ensures bound { IfOk result (λ merged. All (AllUpTo weight) merged.counters) }
         ensures small { IfOk result (λ merged. All (AllUpTo (2 ^ 44)) merged.counters) }
     {
-        let size = usize::from(params.rows) * usize::from(params.width);
-        let counters = levels_of(alloc, &counters, usize::from(params.levels) + 1, size)?;
         Ok(Merged {
             params,
             counters,
@@ -92,6 +108,31 @@ impl Merged {
             dropped,
             weight,
         })
+    }
+
+    /// Adds the counters and the weight of a reply to a replay job, unites the keys of each level and joins the marks
+    /// of dropped keys. The reply is within its limits and of the numbers of this sketch; both weigh at most 2^44
+    /// together, and no absolute counter here is above the weight here. It takes memory for the keys of each level,
+    /// before anything changes: where it is refused, all is as before.
+    pub fn take(&mut self, alloc: Global, reply: &Reply) -> Result<(), Memory>
+        requires reply { IfReplay (MayTake self.old) (reply_of reply.now) }
+        ensures taken { IfOk result (λ _.
+            IfReplay (λ reply. self.new ≡ with_reply self.old reply) (reply_of reply.now)) }
+        ensures small { IfOk result (λ _. All (AllUpTo self.new.weight) self.new.counters) }
+        ensures few { IfOk result (λ _. (n : ℕ)
+            → HaveUpTo n self.old.keys → HaveUpTo (n + self.old.setting.heap) self.new.keys) }
+        ensures refused { OnErr result (self.new ≡ self.old) }
+    {
+        let Reply::Replay { weight, body, .. } = reply else {
+            unreachable!();
+        };
+        let heaps = body.heaps.as_slice();
+        let keys = unions_with_heaps(alloc, &self.keys, heaps)?;
+        self.weight += weight;
+        add(&mut self.counters, body.counters.as_slice());
+        self.keys = keys;
+        self.dropped = joined_mark(self.dropped, heaps);
+        Ok(())
     }
 
     /// The estimate of a key's weight at a level, from the counters of that level, by the functions of this family.
@@ -125,7 +166,8 @@ impl Merged {
         ensures few { length result.now ≤ most_counters }
         ensures bound { AllUpTo (2 ^ 45) result.now }
     {
-        &self.counters[usize::from(level)]
+        let size = usize::from(self.params.rows) * usize::from(self.params.width);
+        level_of(&self.counters, usize::from(level), size)
     }
 
     /// Whether a heap dropped a key.
@@ -152,7 +194,7 @@ impl Merged {
 
     /// These counters less those of the other, with the keys of both; dropped where either dropped a key, and of this
     /// weight. Both have the same numbers, and no absolute counter above 2^44. It takes memory for the counters and
-    /// the keys of each level.
+    /// for the keys of each level.
     pub fn minus(&self, alloc: Global, other: &Merged) -> Result<Merged, Memory>
         requires setting { self.now.setting ≡ other.now.setting }
         requires small { All (AllUpTo (2 ^ 44)) self.now.counters }
@@ -161,7 +203,7 @@ impl Merged {
         ensures few { IfOk result (λ less. (n m : ℕ)
             → HaveUpTo n self.now.keys → HaveUpTo m other.now.keys → HaveUpTo (n + m) less.keys) }
     {
-        let counters = subtracted_levels(alloc, &self.counters, &other.counters)?;
+        let counters = subtracted(alloc, &self.counters, &other.counters)?;
         let keys = unions(alloc, &self.keys, &other.keys)?;
         Ok(Merged {
             params: self.params,

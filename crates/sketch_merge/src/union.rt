@@ -9,6 +9,7 @@ ghost use Rattle.sketch_merge.specs.Next.{BeginsWith};
 
 use flow_keys::FlowKey;
 use mon_io::Memory;
+use reply_format::Heap;
 use std::alloc::Global;
 use std::cmp::Ordering;
 
@@ -28,6 +29,29 @@ pub(crate) fn unions(
     };
     for i in 0..levels.len() {
         let level = union(alloc, &levels[i], &others[i])?;
+        if all.push(level).is_err() {
+            return Err(Memory);
+        }
+    }
+    Ok(all)
+}
+
+// The keys of each level and those of the heap of the same level.
+pub(crate) fn unions_with_heaps(
+    alloc: Global,
+    levels: &[Vec<FlowKey>],
+    heaps: &[Heap],
+) -> Result<Vec<Vec<FlowKey>>, Memory>
+    requires number { length levels.now ≡ length heaps.now }
+    requires ascending { All (IsStrictlySortedBy (slice_cmp nat_cmp)) (map (λ heap. heap.keys) heaps.now) }
+    ensures value { IfOk result (λ all. map (λ level. level.items) all.items
+        ≡ zip2 united (map (λ level. level.items) levels.now) (map (λ heap. heap.keys) heaps.now)) }
+{
+    let Ok(mut all) = Vec::with_capacity(alloc, levels.len()) else {
+        return Err(Memory);
+    };
+    for i in 0..levels.len() {
+        let level = union(alloc, &levels[i], heaps[i].keys.as_slice())?;
         if all.push(level).is_err() {
             return Err(Memory);
         }

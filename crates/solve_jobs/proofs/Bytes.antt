@@ -20,17 +20,17 @@ use Rattle.certificate_text.proofs.RootFirst.{bytes_of-out}
 use Rattle.reply_format.specs.Reply.{HasWritten, IsVersion, SpellsReply, front_bytes, outcome_bytes}
 use Rattle.solve_jobs.specs.Replies.{reply_with}
 
-abbrev Low : ℕ → Type 0
+abbrev pub Low : ℕ → Type 0
 Low byte = byte < 256
 
-abbrev AreLow : List ℕ → Type 0
+abbrev pub AreLow : List ℕ → Type 0
 AreLow bytes = All Low bytes
 
-one_low : (byte : ℕ) (bytes : List ℕ) → byte < 256 → AreLow bytes → AreLow (byte ∷ bytes)
+pub one_low : (byte : ℕ) (bytes : List ℕ) → byte < 256 → AreLow bytes → AreLow (byte ∷ bytes)
 one_low byte bytes low more = All-cons Low byte bytes low more
 
 -- two parts
-join_low : (front rest : List ℕ) → AreLow front → AreLow rest → AreLow (front ++ rest)
+pub join_low : (front rest : List ℕ) → AreLow front → AreLow rest → AreLow (front ++ rest)
 join_low front rest low more = All-append Low front rest low more
 
 -- numbers that are below a lower limit
@@ -46,7 +46,7 @@ byte_low : (i x : ℕ) → byte_at i x < 256
 byte_low zero x = mod-lt x (lit< tt)
 byte_low (suc i) x = mod-lt (x / 256 ^ suc i) (lit< tt)
 
-number_low : (i n x : ℕ) → AreLow (bytes_low_first i n x)
+pub number_low : (i n x : ℕ) → AreLow (bytes_low_first i n x)
 number_low i zero x = All-nil Low
 number_low i (suc n) x = one_low (byte_at i x) (bytes_low_first (suc i) n x) (byte_low i x) (number_low (suc i) n x)
 
@@ -120,11 +120,11 @@ outcome_low (Infeasible tree) written low = one_low 1 (bytes_of tree) (omega ari
 outcome_low (Spent tree) written low = one_low 2 (bytes_of tree) (omega arith) low
 
 -- the head's bytes
-version_low : (version : ℕ) → IsVersion version → version < 256
+pub version_low : (version : ℕ) → IsVersion version → version < 256
 version_low version (inl is) = omega arith
 version_low version (inr is) = omega arith
 
-four_low : (a b c d : ℕ) (bytes : List ℕ) → a < 256 → b < 256 → c < 256 → d < 256 → AreLow bytes
+pub four_low : (a b c d : ℕ) (bytes : List ℕ) → a < 256 → b < 256 → c < 256 → d < 256 → AreLow bytes
     → AreLow (a ∷ b ∷ c ∷ d ∷ bytes)
 four_low a b c d bytes first second third fourth low =
     one_low a (b ∷ c ∷ d ∷ bytes) first

@@ -16,7 +16,7 @@ use Rattle.solve_jobs.specs.Reading.{are_bytes, low_bytes, read_where, reading, 
 use Rattle.solve_jobs.specs.Replies.{IsRightReply, reply_with}
 use Rattle.solve_jobs.proofs.Bytes.{spelled_low}
 
-are_low : (bytes : List ℕ) → All (λ byte. byte < 256) bytes → are_bytes bytes ≡ true
+pub are_low : (bytes : List ℕ) → All (λ byte. byte < 256) bytes → are_bytes bytes ≡ true
 are_low [] low = refl
 are_low (byte ∷ bytes) low =
     both_true (lt-ltb byte 256 (All-head (λ byte. byte < 256) byte bytes low))

@@ -20,12 +20,12 @@ loop-i-preserved c =
     let items : c.push.new.self.items ≡ c.loop-i.all.items ++ c.in_ok-level.level ∷ [] = search rules in
     let value : c.in_ok-level.level.items ≡ united c.index-levels-i.result.items c.index-others-i.result.items =
     rw (← c.deref.ensures.value, ← c.deref-in-loop-i.ensures.value) c.in_ok-level.ensures.value in
-    rw items (seen_more view united c.args.levels.now c.args.others.now c.loop-i.all.items c.loop-i.i
+    rw items (seen_more view view united c.args.levels.now c.args.others.now c.loop-i.all.items c.loop-i.i
     c.index-levels-i.result c.index-others-i.result c.in_ok-level.level
     (omega arith) c.requires.number c.index-levels-i.is c.index-others-i.is value c.loop-i.invariant)
 
 pub returns : goal.returns
 returns c = record {
-  value = seen_whole view united c.args.levels.now c.args.others.now c.loop-i.all.items c.loop-i.i
+  value = seen_whole view view united c.args.levels.now c.args.others.now c.loop-i.all.items c.loop-i.i
       (omega arith) c.requires.number c.loop-i.invariant;
 }

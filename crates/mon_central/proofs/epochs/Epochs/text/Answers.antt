@@ -3,6 +3,7 @@ use Rattle.routed_trace.specs.Routed.{routed_of}
 use Rattle.mon_central.specs.Sketched.{Splits}
 use Rattle.mon_central.specs.declared.sketching.Sketched.{Sketched}
 use Rattle.mon_central.proofs.OneMore.{central_text_is}
+use Rattle.mon_central.proofs.Ranges.{if_ok_weaker}
 use Rattle.routed_trace.proofs.Records.{length-routed_of-le}
 use Rattle.mon_central.proofs.epochs.Epochs.text.Goals as goal
 
@@ -24,13 +25,13 @@ epochs_text-requires c =
           part.divides.splits;
     }
 
-pub returns-in-Ok : goal.returns-in-Ok
-returns-in-Ok c = λ topology header members divides.
+pub returns : goal.returns
+returns c = if_ok_weaker c.text_of.result (λ text is topology header members divides.
     let routed = routed_of c.args.setting.now.division topology header members in
     let splits = subst (λ (l : List Sketched). Splits c.args.setting.now l routed) (sym c.deref.ensures.value)
     divides.splits in
-    c.in-Ok.ensures
+    is
     ∙ central_text_is c.args.setting.now topology header members _ _ _ _ _ divides.counts_are.packets
     divides.counts_are.keyed divides.counts_are.routed
     (ap (λ (l : List Sketched). length l) c.deref.ensures.value ∙ divides.number_is)
-    (c.deref-2.ensures ∙ c.in_ok-epochs.ensures.text routed splits)
+    (c.deref-2.ensures ∙ c.in_ok-epochs.ensures.text routed splits)) c.text_of.ensures.text

@@ -1,0 +1,4 @@
+pub mod Accepted
+pub mod Outs
+pub mod Fed
+pub mod Answered

@@ -1,0 +1,2 @@
+mod EpochLines
+mod Pieces

@@ -1,0 +1,9 @@
+pub mod Sums
+pub mod Tests
+pub mod Ranges
+pub mod Parts
+pub mod KeyLists
+pub mod Weights
+pub mod United
+pub mod Alike
+pub mod Whole

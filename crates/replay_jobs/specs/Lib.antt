@@ -1,0 +1,4 @@
+pub mod Grouped
+pub mod Replays
+pub mod ReplayJobs
+pub mod ReplayLaws

@@ -1,0 +1,90 @@
+//! The shares of all epochs and switches.
+ghost use Rattle.std.specs.Prelude.{◌≡◌, ◌≤◌, ◌<◌, ◌*◌, ◌/◌, ◌%◌, ◌^◌, [], ℕ, All, IfOk, length, map};
+ghost use Rattle.hash_family.specs.Setting.{setting_of};
+ghost use Rattle.path_shares.specs.Shares.{share_job};
+ghost use Rattle.routed_trace.specs.Routed.{weight_of_routed};
+ghost use Rattle.share_jobs.specs.Share.{share_of};
+ghost use Rattle.count_sketch.specs.Counters.{AllUpTo};
+ghost use Rattle.sketch_merge.specs.Merged.{HaveUpTo};
+ghost use Rattle.sketch_merge.specs.Merging.{merged_view};
+ghost use Rattle.replay_places.specs.Epochs.{share_at};
+ghost use Rattle.replay_jobs.specs.Grouped.{IsShareOf};
+
+use crate::share::share_items;
+use flow_keys::Routed;
+use hash_family::Params;
+use mon_io::Memory;
+use share_jobs::ShareJob;
+use sketch_merge::Merged;
+use std::alloc::Global;
+
+/// The shares of 1 to 8 epochs and 1 to 32 switches, one epoch behind the other. It takes memory.
+pub(crate) fn all_shares(
+    alloc: Global,
+    params: &Params,
+    epochs: u8,
+    switches: u8,
+    placement: &[u8],
+    routed: &[Routed],
+) -> Result<Vec<ShareJob>, Memory>
+    requires epochs_few { epochs ≤ 8 }
+    requires switches_some { 1 ≤ switches }
+    requires switches_few { switches ≤ 32 }
+    requires paths { All (λ packet. packet.path < length placement.now) routed.now }
+    requires few { length routed.now ≤ 1048576 }
+    requires light { weight_of_routed routed.now ≤ 2 ^ 44 }
+    ensures number { IfOk result (λ shares. length shares.items ≡ epochs * switches) }
+    ensures each { IfOk result (λ shares. (job : ℕ) → job < epochs * switches
+        → IsShareOf (share_job (setting_of params.now) switches placement.now routed.now (job / switches) (job % switches))
+        (share_at (map share_of shares.items) job)) }
+{
+    let mut shares = Vec::new(alloc);
+    for number in 0..u32::from(epochs) * u32::from(switches) {
+        let share = share_numbered(alloc, params, number, switches, placement, routed)?;
+        if shares.push(share).is_err() {
+            return Err(Memory);
+        }
+    }
+    Ok(shares)
+}
+
+// The share of a job's number.
+fn share_numbered(
+    alloc: Global,
+    params: &Params,
+    number: u32,
+    switches: u8,
+    placement: &[u8],
+    routed: &[Routed],
+) -> Result<ShareJob, Memory>
+    requires numbered { number < 256 }
+    requires switches_some { 1 ≤ switches }
+    requires paths { All (λ packet. packet.path < length placement.now) routed.now }
+    requires few { length routed.now ≤ 1048576 }
+    requires light { weight_of_routed routed.now ≤ 2 ^ 44 }
+    ensures share { IfOk result (λ share. IsShareOf
+        (share_job (setting_of params.now) switches placement.now routed.now (number / switches) (number % switches))
+        (share_of share)) }
+{
+    let epoch = (number / u32::from(switches)) as u8;
+    let switch = (number % u32::from(switches)) as u8;
+    let items = share_items(alloc, placement, routed, epoch, switch)?;
+    ShareJob::new(alloc, number, params, &items)
+}
+
+/// As many values of nothing merged as there are epochs. It takes memory.
+pub(crate) fn all_merged(alloc: Global, params: Params, epochs: u8) -> Result<Vec<Merged>, Memory>
+    ensures number { IfOk result (λ merged. length merged.items ≡ epochs) }
+    ensures each { IfOk result (λ merged. All (λ view. view ≡ merged_view (setting_of params) 0 []) merged.items) }
+    ensures small { IfOk result (λ merged. All (λ view. All (AllUpTo view.weight) view.counters) merged.items) }
+    ensures few { IfOk result (λ merged. All (λ view. HaveUpTo 0 view.keys) merged.items) }
+{
+    let mut merged = Vec::new(alloc);
+    for _ in 0..epochs {
+        let none = Merged::new(alloc, params)?;
+        if merged.push(none).is_err() {
+            return Err(Memory);
+        }
+    }
+    Ok(merged)
+}

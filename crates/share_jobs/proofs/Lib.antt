@@ -1,0 +1,4 @@
+pub mod Bytes
+pub mod Frames
+pub mod Heads
+pub mod Judged

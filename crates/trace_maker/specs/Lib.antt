@@ -1,0 +1,4 @@
+pub mod Packet
+pub mod Stream
+pub mod Topology
+pub mod Trace
