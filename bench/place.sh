@@ -6,7 +6,7 @@ here=$(cd "$(dirname "$0")" && pwd)
 program="$here/../crates/univmon/out/univmon"
 work=$(mktemp -d)
 trap 'rm -rf "$work"' EXIT
-python3 "$here/make_topology.py" "$work/topology.toml"
+python3 "$here/make_drill.py" "$work/trace.pcap" "$work/topology.toml" 1 0 1
 
 # A child that ends itself the first time that it runs, and then is the program.
 cat > "$work/dies_once" <<END
