@@ -3,3 +3,4 @@ pub mod Fed
 pub mod Supervised
 pub mod Told
 pub mod Searches
+pub mod Parts

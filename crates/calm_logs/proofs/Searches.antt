@@ -23,14 +23,14 @@ use Rattle.calm_logs.specs.Calm.{IsCalm}
 use Rattle.calm_logs.proofs.Supervised.{IsServed, answered_under, calm_steps, order_under}
 
 -- bytes that spell a job are not refused
-not_refused : (job : Job) (bytes : List ℕ) → SpellsJob job bytes → IsRefused bytes → ⊥
+pub not_refused : (job : Job) (bytes : List ℕ) → SpellsJob job bytes → IsRefused bytes → ⊥
 not_refused job bytes spelled refused =
     let same : ◌≡◌ {A = Result Job JobFault} (Ok job) (Err refused.0) =
     one_read bytes (Ok job) (Err refused.0) spelled refused.1 in
     cc
 
 -- what answers them answers that job
-answers_it : (job : Job) (bytes answer : List ℕ) → SpellsJob job bytes → AnswersBytes bytes answer
+pub answers_it : (job : Job) (bytes answer : List ℕ) → SpellsJob job bytes → AnswersBytes bytes answer
     → IsAnswer job answer
 answers_it job bytes answer spelled answers =
     let same : ◌≡◌ {A = Result Job JobFault} (Ok answers.0) (Ok job) =
@@ -78,7 +78,7 @@ calm_alike problem nodes v w part reads also calm = record {
 }
 
 -- the stops of what is out count nothing
-calm_stops : (work : Work) (outs : List Attempt) (log : List Entry) → IsCalm work log
+pub calm_stops : (work : Work) (outs : List Attempt) (log : List Entry) → IsCalm work log
     → IsCalm work (with_stops outs log)
 calm_stops work outs log calm = record {
   fresh = stale-stops work outs log ∙ calm.fresh;

@@ -95,7 +95,7 @@ module _ (p : Plan) (answers : List ℕ → List ℕ → Type 0) (refuses : List
   quiet before (Stopped t) fed step order answered = record { fresh = refl; none_bad = λ job bad. refl }
 
 -- the entries before one are answered
-answered_before : (answers : List ℕ → List ℕ → Type 0) (refuses : List ℕ → Type 0) (entry : Entry)
+pub answered_before : (answers : List ℕ → List ℕ → Type 0) (refuses : List ℕ → Type 0) (entry : Entry)
     (before : List Entry) → AreAnswered answers refuses (entry ∷ before) → AreAnswered answers refuses before
 answered_before answers refuses (Started t) before answered = answered
 answered_before answers refuses (StartFailed t) before answered = answered

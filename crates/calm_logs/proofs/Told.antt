@@ -8,7 +8,7 @@ use Rattle.replay_supervisor.specs.Jobs.{Work}
 use Rattle.calm_logs.specs.Calm.{IsCalm}
 
 -- a part is calm in one way
-calm_once : (work : Work) (part : List Entry) → IsProp (IsCalm work part)
+pub calm_once : (work : Work) (part : List Entry) → IsProp (IsCalm work part)
 calm_once work part = hlevel (ℕ_set)
 
 -- What is told of a log that was empty before the part is told of the part.

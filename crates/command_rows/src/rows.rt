@@ -6,7 +6,7 @@ ghost use Rattle.mon_io.specs.MemInputs.{mem_inputs_state};
 use mon_command::{
     Input, Opt, Status, TraceFault, UsageFault, run_alone, status_line, status_number,
 };
-use mon_io::{Fault, Inputs, MemInputs, MemSink};
+use mon_io::{Fault, Inputs, MemInputs, MemSink, Sink};
 use pcap_reader::PcapFault;
 use std::alloc::{AllocError, Global};
 use std::process::Abort;
@@ -16,6 +16,7 @@ mod check;
 mod child;
 mod epochs;
 mod lines;
+mod made;
 mod weights;
 
 const LITTLE: [u8; 24] = [
@@ -113,11 +114,11 @@ fn inputs(alloc: Global, bytes: Vec<u8>, fails: Option<u32>) -> Result<MemInputs
 }
 
 // Runs the command with these words, which are divided by spaces.
-fn run<I: Inputs>(
+fn run<I: Inputs, K: Sink>(
     alloc: Global,
     line: &str,
     inputs: &mut I,
-    sink: &mut MemSink,
+    sink: &mut K,
 ) -> Result<Status, AllocError> {
     let mut words = Vec::new(alloc);
     for word in line.split_whitespace() {

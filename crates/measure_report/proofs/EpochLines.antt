@@ -57,16 +57,27 @@ lines_of_two form seed heavy packets views epoch before view other lines more te
     ++ change_block form seed heavy epoch (earlier i) (now i))
     ∙ sym (later_lines form seed heavy packets (view_in views other) epoch later)
 
+-- the lines of an epoch by those of its block and of its change
+pub lines_by_blocks : (form : Form) (seed heavy : ℕ) (packets others : ℕ → ℕ) (view other : ℕ → View) (epoch : ℕ)
+    → epoch_block form seed heavy epoch (packets epoch) (view epoch)
+    ≡ epoch_block form seed heavy epoch (others epoch) (other epoch)
+    → (0 < epoch → change_block form seed heavy epoch (view (epoch - 1)) (view epoch)
+    ≡ change_block form seed heavy epoch (other (epoch - 1)) (other epoch))
+    → epoch_text form seed heavy packets view epoch ≡ epoch_text form seed heavy others other epoch
+unfolding epoch_text
+lines_by_blocks form seed heavy packets others view other zero block change = λ i. block i ++ []
+lines_by_blocks form seed heavy packets others view other (suc n) block change =
+    let later : 0 < suc n = omega arith in
+    later_lines form seed heavy packets view (suc n) later
+    ∙ (λ i. block i ++ change later i)
+    ∙ sym (later_lines form seed heavy others other (suc n) later)
+
 -- the lines of an epoch are those of the same packets and sketches
 pub same_lines : (form : Form) (seed heavy epochs : ℕ) (packets others : ℕ → ℕ) (view other : ℕ → View) (epoch : ℕ)
     → ((k : ℕ) → k < epochs → packets k ≡ others k) → ((k : ℕ) → k < epochs → view k ≡ other k) → epoch < epochs
     → epoch_text form seed heavy packets view epoch ≡ epoch_text form seed heavy others other epoch
-unfolding epoch_text
-same_lines form seed heavy epochs packets others view other zero counts views within =
-    λ i. epoch_block form seed heavy 0 (counts 0 within i) (views 0 within i) ++ []
-same_lines form seed heavy epochs packets others view other (suc n) counts views within =
-    let earlier : view (suc n - 1) ≡ other (suc n - 1) = views (suc n - 1) (omega (arith, within)) in
-    later_lines form seed heavy packets view (suc n) (omega arith)
-    ∙ (λ i. epoch_block form seed heavy (suc n) (counts (suc n) within i) (views (suc n) within i)
-    ++ change_block form seed heavy (suc n) (earlier i) (views (suc n) within i))
-    ∙ sym (later_lines form seed heavy others other (suc n) (omega arith))
+same_lines form seed heavy epochs packets others view other epoch counts views within =
+    lines_by_blocks form seed heavy packets others view other epoch
+    (λ i. epoch_block form seed heavy epoch (counts epoch within i) (views epoch within i))
+    (λ later. (λ i. change_block form seed heavy epoch (views (epoch - 1) (omega (arith, within)) i)
+    (views epoch within i)))

@@ -1,2 +1,3 @@
-mod EpochLines
+pub mod EpochLines
 mod Pieces
+pub mod Reports

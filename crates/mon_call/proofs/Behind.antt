@@ -24,7 +24,7 @@ suffix_left (Some bytes) None (Some now) over (inl same) = absurd (cc)
 suffix_left (Some bytes) mid (Some now) over (inr (front, took)) = let is = took.taken in (front, cc)
 
 -- a rise behind a count that didn't fall
-rose_later : (before mid now : ℕ) → before ≤ mid → Rose mid now → Rose before now
+pub rose_later : (before mid now : ℕ) → before ≤ mid → Rose mid now → Rose before now
 rose_later before mid now later rose = omega (arith, later, rose)
 
 -- what one duty shows, the other shows, whose first input is a topology that was read

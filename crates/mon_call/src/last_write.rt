@@ -10,7 +10,15 @@ pub fn finish<K: Sink>(sink: &mut K, text: &str) -> Status
     ensures finishes { Finishes (K.state sink.old) (K.state sink.new) text.now result }
     ensures later { (K.state sink.old).faults ≤ (K.state sink.new).faults }
 {
-    match write_all(sink, text.as_bytes()) {
+    finish_bytes(sink, text.as_bytes())
+}
+
+/// Writes the bytes that are due: `Done`, or `SinkFault` where only a prefix of them was written.
+pub fn finish_bytes<K: Sink>(sink: &mut K, bytes: &[u8]) -> Status
+    ensures finishes { Finishes (K.state sink.old) (K.state sink.new) bytes.now result }
+    ensures later { (K.state sink.old).faults ≤ (K.state sink.new).faults }
+{
+    match write_all(sink, bytes) {
         Ok(()) => Status::Done,
         Err(_) => Status::SinkFault,
     }

@@ -4,7 +4,7 @@
 //! - `setting`: `Setting`, the numbers of a sketch and of what is printed of it
 //! - `topology_file`: `read_topology`
 //! - `trace_stop`: `trace_status`, the status at a stop of the reader of a trace
-//! - `last_write`: `finish`
+//! - `last_write`: `finish`, `finish_bytes`
 //!
 //! `specs/Call.antt` says each status with its cause, of any command: a command brings its duty, which is the inputs
 //! that it reads, the text that is due, and why it refuses what it reads. `specs/CrewCall.antt` has what a call with a
@@ -18,7 +18,7 @@ mod status;
 mod topology_file;
 mod trace_stop;
 
-pub use last_write::finish;
+pub use last_write::{finish, finish_bytes};
 pub use setting::Setting;
 pub use status::{Input, Phase, Status};
 pub use topology_file::read_topology;

@@ -1,7 +1,8 @@
 //! A topology from a file.
-ghost use Rattle.std.specs.Prelude.{◌≡◌, ◌≤◌, [], ◌∷◌};
+ghost use Rattle.std.specs.Prelude.{◌≡◌, ◌≤◌, [], ◌∷◌, IfOk};
 ghost use Rattle.mon_io.specs.Inputs.{Picked};
 ghost use Rattle.mon_call.specs.Topology.{ReadsTopology};
+ghost use Rattle.topology.specs.Accepted.{IsAccepted};
 
 use crate::{Input, Status};
 use mon_io::{Inputs, ReadStop, read_all};
@@ -19,6 +20,7 @@ pub fn read_topology<I: Inputs>(
     inputs: &mut I,
 ) -> Result<Topology, Status>
     ensures reads { ReadsTopology ((I.state inputs.old).contents name.now) (I.state inputs.old) (I.state inputs.new) result }
+    ensures accepted { IfOk result IsAccepted }
     ensures picks { Picked (I.picks inputs.old) (I.picks inputs.new) (name.now ∷ []) }
     ensures stays { (I.state inputs.new).contents ≡ (I.state inputs.old).contents }
     ensures later { (I.state inputs.old).faults ≤ (I.state inputs.new).faults }

@@ -1,4 +1,5 @@
 mod Asking
 mod Counting
 mod Digits
+pub mod Measuring
 pub mod Telling

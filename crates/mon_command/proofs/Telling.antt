@@ -19,7 +19,15 @@ use Rattle.mon_place.proofs.Told.{place_unfit}
 use Rattle.mon_place.specs.Place.{PlaceAnswers}
 use Rattle.mon_place.specs.Told.{TellsPlace}
 use Rattle.solve_phase.specs.declared.solving.Solving.{Solving}
-use Rattle.mon_command.specs.Asked.{AloneCommand, Asked, Alone, Place, Total, Central, Check, Child}
+use Rattle.change_report.specs.Form.{Form, Whole, Brief}
+use Rattle.measure_answers.specs.Measure.{MeasureAnswers, TellsMeasure}
+use Rattle.measure_answers.specs.Replayed.{Contents, contents_of}
+use Rattle.measure_told.proofs.Faults.{measure_refused, measure_unfit}
+use Rattle.mon_call.specs.CrewCall.{crew_call_of}
+use Rattle.mon_call.specs.declared.setting.Setting.{Setting}
+use Rattle.mon_drill.specs.Drill.{made_for}
+use Rattle.mon_generate.proofs.Told.{generate_told}
+use Rattle.mon_command.specs.Asked.{AloneCommand, Asked, Alone, Place, Measure, Drill, Total, Central, Check, Child, Generate}
 use Rattle.mon_command.specs.Outcome.{Answered, CrewOutcome, IsCalm, Outcome, Placed, Tells, TellsAlone, duty_of}
 use Rattle.mon_command.specs.Total.{TellsTotal, total_duty}
 
@@ -59,6 +67,7 @@ is_told (Central trace topology setting) call wanted told = central_told call.in
     wanted told
 is_told (Check topology tree) call wanted told = check_told call.inputs.contents topology tree wanted told
 is_told Child call wanted told = child_told (call.inputs.contents (codes "-")) wanted told
+is_told (Generate part seed packets flows) call wanted told = generate_told part seed packets flows wanted told
 
 -- a command that starts nobody
 alone_told : (before after : List (List ℕ) → Type 0) (asked : AloneCommand) (call : Call) (wanted status : Status)
@@ -77,6 +86,10 @@ answers_told before after read (Alone asked) call wanted status outcome calm tol
     (subst (λ (r : Result Asked UsageFault). Outcome before after r call status) calm.taken outcome) calm.smooth told
 answers_told before after read (Place topology solving) call wanted status outcome calm told =
     absurd (subst (λ (r : Result Asked UsageFault). Outcome before after r call status) calm.taken outcome)
+answers_told before after read (Measure topology trace setting solving) call wanted status outcome calm told =
+    absurd (subst (λ (r : Result Asked UsageFault). Outcome before after r call status) calm.taken outcome)
+answers_told before after read (Drill packets flows setting solving) call wanted status outcome calm told =
+    absurd (subst (λ (r : Result Asked UsageFault). Outcome before after r call status) calm.taken outcome)
 
 -- of a topology whose placement is asked for, only a fault is told
 placed_told : (topology : List ℕ) (solving : Solving) (c : CrewCall) (wanted status : Status)
@@ -85,6 +98,16 @@ placed_told : (topology : List ℕ) (solving : Solving) (c : CrewCall) (wanted s
 placed_told topology solving c (Topology fault) status answers smooth told =
     place_unfit (c.call.inputs.contents topology) solving c fault status smooth told answers
 placed_told topology solving c _ status answers smooth told = absurd told
+
+-- of what is measured, only a fault is told
+measured_told : (form : Form) (contents : Contents) (setting : Setting) (solving : Solving) (c : CrewCall)
+    (wanted status : Status) → MeasureAnswers form contents setting solving c status → IsSmooth c.call
+    → TellsMeasure contents setting.division wanted → UnlessMemory wanted status
+measured_told form contents setting solving c (Topology fault) status answers smooth told =
+    measure_unfit form contents setting solving c smooth fault status told answers
+measured_told form contents setting solving c (Trace fault) status answers smooth told =
+    measure_refused form contents setting solving c smooth fault status told.0 told.1 answers
+measured_told form contents setting solving c _ status answers smooth told = absurd told
 
 pub crew_told : (before after : List (List ℕ) → Type 0) (read : Result Asked UsageFault) (asked : Asked)
     (c : CrewCall) (wanted status : Status)
@@ -96,6 +119,16 @@ crew_told before after read (Alone asked) c wanted status outcome calm told =
 crew_told before after read (Place topology solving) c wanted status outcome calm told =
     let placed = subst (λ (r : Result Asked UsageFault). CrewOutcome before after r c status) calm.taken outcome in
     placed_told topology solving c wanted status placed.answers calm.smooth told
+crew_told before after read (Measure topology trace setting solving) c wanted status outcome calm told =
+    let measured = subst (λ (r : Result Asked UsageFault). CrewOutcome before after r c status) calm.taken outcome in
+    measured_told Whole (contents_of c.call.inputs topology trace) setting solving c wanted status measured.answers
+    calm.smooth told
+crew_told before after read (Drill packets flows setting solving) c wanted status outcome calm told =
+    let drilled = subst (λ (r : Result Asked UsageFault). CrewOutcome before after r c status) calm.taken outcome in
+    measured_told Brief (made_for setting.seed packets flows) setting solving
+    (crew_call_of drilled.drills.files drilled.drills.files_after c.crew c.crew_after c.call.sink c.call.sink_after)
+    wanted status drilled.drills.answers
+    (record { inputs = drilled.drills.calm; sink = calm.smooth.sink }) told
 
 -- what was asked of children, where the words ask for a placement
 pub placed : (before after : List (List ℕ) → Type 0) (read : Result Asked UsageFault) (topology : List ℕ)

@@ -1,4 +1,5 @@
 pub mod Asked
+pub mod Measures
 pub mod Outcome
 pub mod Status
 pub mod Total

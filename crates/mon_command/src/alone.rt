@@ -15,6 +15,7 @@ use mon_call::{Setting, Status};
 use mon_central::{central_alone, central_routed};
 use mon_check::check_tree;
 use mon_child::child;
+use mon_generate::generate;
 use mon_io::{Inputs, Sink};
 use mon_words::{Command, Words, WordsFault, read_words};
 use std::alloc::Global;
@@ -109,7 +110,11 @@ pub(crate) fn perform<I: Inputs, K: Sink>(
             check_tree(alloc, topology, tree, inputs, sink)
         }
         Command::Child => child(alloc, inputs, sink),
-        Command::Place => unreachable!(),
+        Command::Generate => {
+            let (packets, flows) = (words.packets, words.flows);
+            generate(alloc, words.part, words.seed, packets, flows, sink)
+        }
+        Command::Place | Command::Measure | Command::Drill => unreachable!(),
     }
 }
 

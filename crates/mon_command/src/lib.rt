@@ -2,12 +2,14 @@
 //!
 //! - `alone`: `run_alone`, the commands that start nobody
 //! - `crewed`: `run`, all commands
-//! - `total`: the command `total`; `central`, `check`, `child` and `place` stand in crates of their own
+//! - `total`: the command `total`; `central`, `check`, `child`, `generate`, `place`, `measure` and `drill` stand in crates
+//!   of their own
 //! - `statuses`: the number and the line of a status; `topology_line`, `certificate_line`: the lines of the faults of
 //!   a topology and of a certificate; `laws`: what the eight digits of a magic number are
 //!
 //! `specs/Outcome.antt` says how a call is answered: by what its words ask for, each status with its cause, and which
-//! inputs were picked. `specs/Status.antt` is the table of numbers and lines.
+//! inputs were picked. `specs/Measures.antt` says what a call has measured, where `run` tells how a measure ends.
+//! `specs/Status.antt` is the table of numbers and lines.
 #![tactic(auto)]
 
 mod alone;

@@ -57,7 +57,7 @@ reported contents solving c outcome text status is (inr (inr (same, silent))) =
 -- a search that was given up
 pub given_up : (contents : Option (List ℕ)) (solving : Solving) (c : CrewCall) (topo : Topo) (stop : Stop)
     → SpellTopology contents topo → Solves topo.problem solving c.crew c.crew_after (Err stop) → IsSilent c.call
-    → PlaceAnswers contents solving c (stop_status stop)
+    → PlaceAnswers contents solving c (stop_status phases.Solve stop)
 given_up contents solving c topo (stops.RestartsSpent job bad) spells ends silent =
     (record { topo = topo; spells = spells; ends = ends }, silent)
 given_up contents solving c topo stops.StaleLimit spells ends silent =

@@ -13,7 +13,7 @@ use Rattle.solve_phase.specs.declared.solving.Solving.{Solving}
 use Rattle.mon_place.specs.Place.{PlaceAnswers}
 
 -- a crew that is as it was, and one that was asked
-stayed : (c : CrewCall) → Keeps c.call → ((ticket : ℕ) → c.crew.is_out ticket ≡ false) → IsIdle c → KeepsCrew c
+pub stayed : (c : CrewCall) → Keeps c.call → ((ticket : ℕ) → c.crew.is_out ticket ≡ false) → IsIdle c → KeepsCrew c
 stayed c keeps none_out idle = record {
   keeps = keeps;
   crew_later = omega (arith, ap (λ (s : CrewState). s.faults) idle);
@@ -21,7 +21,7 @@ stayed c keeps none_out idle = record {
   none_out = λ ticket. ap (λ (s : CrewState). s.is_out ticket) idle ∙ none_out ticket;
 }
 
-asked : (c : CrewCall) (part : List Entry) → Keeps c.call → Grows c.crew c.crew_after part → KeepsCrew c
+pub asked : (c : CrewCall) (part : List Entry) → Keeps c.call → Grows c.crew c.crew_after part → KeepsCrew c
 asked c part keeps grows = record {
   keeps = keeps;
   crew_later = grows.faults;

@@ -13,6 +13,7 @@ use Rattle.mon_call.specs.Call.{IsSilent, Reading, Wrote, WrotePart, reading}
 use Rattle.mon_call.specs.CrewCall.{CrewCall, IsIdle}
 use Rattle.mon_call.specs.Topology.{IsUnfit, SpellTopology}
 use Rattle.mon_call.specs.declared.status.Input.TheVariants as inputs
+use Rattle.mon_call.specs.declared.status.Phase.{Phase}
 use Rattle.mon_call.specs.declared.status.Phase.TheVariants as phases
 use Rattle.mon_call.specs.declared.status.Status.{Status}
 use Rattle.mon_call.specs.declared.status.Status.TheVariants as statuses
@@ -93,11 +94,11 @@ status_of nodes (outcomes.Placed placement tree) = statuses.Done
 status_of nodes (outcomes.Infeasible tree) = statuses.Infeasible
 status_of nodes (outcomes.Spent tree) = statuses.SearchBudget nodes
 
--- the status of a search that was given up
-abbrev pub stop_status : Stop → Status
-stop_status (stops.RestartsSpent job bad) = statuses.RestartsSpent phases.Solve job bad
-stop_status stops.StaleLimit = statuses.StaleLimit phases.Solve
-stop_status stops.Memory = statuses.Memory
+-- the status of a phase in which children were given up
+abbrev pub stop_status : Phase → Stop → Status
+stop_status phase (stops.RestartsSpent job bad) = statuses.RestartsSpent phase job bad
+stop_status phase stops.StaleLimit = statuses.StaleLimit phase
+stop_status phase stops.Memory = statuses.Memory
 
 -- How a text is reported: it was written under this status, or a prefix of it where the sink failed, or nothing where
 -- memory ran out.

@@ -4,17 +4,14 @@ ghost use Rattle.mon_call.specs.Call.{Picks};
 ghost use Rattle.mon_call.specs.CrewCall.{KeepsCrew, crew_call_of};
 ghost use Rattle.mon_call.specs.Topology.{SpellTopology};
 ghost use Rattle.mon_io.specs.Inputs.{InputState};
-ghost use Rattle.mon_place.specs.Place.{PlaceAnswers, Reports, place_reads, status_of, stop_status};
-ghost use Rattle.outcome_report.specs.Outcome.{FitsWherePlaced, outcome_text};
+ghost use Rattle.mon_place.specs.Place.{PlaceAnswers, place_reads};
 ghost use Rattle.solve_phase.specs.Solving.{IsSolving};
 
-use bound_certificate::Outcome;
+use crate::{report_outcome, stop_status};
 use crew::Spawner;
-use mon_call::{Phase, Status, finish, read_topology};
+use mon_call::{Phase, Status, read_topology};
 use mon_io::{Inputs, Sink};
-use outcome_report::outcome_text;
-use replay_supervisor::Stop;
-use solve_phase::{Found, Solving, solve};
+use solve_phase::{Solving, solve};
 use std::alloc::Global;
 use topology::Topology;
 
@@ -62,57 +59,7 @@ fn search<S: Spawner, K: Sink>(
     ensures later { (K.state sink.old).faults ≤ (K.state sink.new).faults }
 {
     match solve(alloc, crew, network.problem(), solving) {
-        Ok(found) => report(alloc, network, solving.nodes, &found, sink),
-        Err(stop) => stop_status(stop),
-    }
-}
-
-// Writes the text of what was found.
-fn report<K: Sink>(
-    alloc: Global,
-    network: &Topology,
-    nodes: u32,
-    found: &Found,
-    sink: &mut K,
-) -> Status
-    requires fits { FitsWherePlaced network.now.problem found.now.outcome }
-    ensures reports { Reports (outcome_text network.now nodes found.now.outcome found.now.verdict)
-        (status_of nodes found.now.outcome) (K.state sink.old) (K.state sink.new) result }
-    ensures later { (K.state sink.old).faults ≤ (K.state sink.new).faults }
-{
-    let Ok(text) = outcome_text(alloc, network, nodes, &found.outcome, found.verdict) else {
-        return Status::Memory;
-    };
-    match finish(sink, text.as_str()) {
-        Status::Done => outcome_status(nodes, &found.outcome),
-        _ => Status::SinkFault,
-    }
-}
-
-// The status of a search that found this outcome.
-fn outcome_status(nodes: u32, outcome: &Outcome) -> Status
-    ensures value { result ≡ status_of nodes outcome.now }
-{
-    match outcome {
-        Outcome::Placed { .. } => Status::Done,
-        Outcome::Infeasible { .. } => Status::Infeasible,
-        Outcome::Spent { .. } => Status::SearchBudget { nodes },
-    }
-}
-
-// The status of a search that was given up.
-fn stop_status(stop: Stop) -> Status
-    ensures value { result ≡ stop_status stop }
-{
-    match stop {
-        Stop::RestartsSpent { job, bad } => Status::RestartsSpent {
-            phase: Phase::Solve,
-            job,
-            bad,
-        },
-        Stop::StaleLimit => Status::StaleLimit {
-            phase: Phase::Solve,
-        },
-        Stop::Memory => Status::Memory,
+        Ok(found) => report_outcome(alloc, network, solving.nodes, &found, sink),
+        Err(stop) => stop_status(Phase::Solve, stop),
     }
 }

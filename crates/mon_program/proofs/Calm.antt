@@ -1,10 +1,11 @@
 -- A search over children in this process is calm.
-use Rattle.std.proofs.Common.{◌≡◌, ◌⊎◌, ◌≤◌, ℕ, List, [], ◌++◌, Option, Some, Ok, refl, sym, ◌∙◌, ap, subst, arith, inl, inr}
+use Rattle.std.proofs.Common.{◌≡◌, ◌⊎◌, ℕ, List, [], ◌++◌, Option, Some, Ok, sym, ◌∙◌, ap, subst, inl, inr}
 use Rattle.std.specs.Prelude.{⊤}
 use Rattle.std.proofs.lemmas.List.{append_cancel_right}
 use Rattle.std.proofs.lemmas.Option.{same_Some}
 use Rattle.bound_certificate.specs.declared.outcome.Outcome.{Outcome}
 use Rattle.bound_certificate.specs.declared.outcome.Outcome.TheVariants as outcomes
+use Rattle.calm_logs.proofs.Parts.{none_calm}
 use Rattle.calm_logs.proofs.Searches.{calm_found, calm_given_up}
 use Rattle.calm_logs.proofs.Told.{calm_told}
 use Rattle.calm_logs.specs.Calm.{IsCalm}
@@ -21,19 +22,16 @@ use Rattle.mon_call.specs.declared.status.Status.TheVariants as statuses
 use Rattle.mon_place.proofs.Told.{told_given_up, told_outcome}
 use Rattle.mon_place.specs.Place.{HasOutcome, IsGivenUp, PlaceAnswers}
 use Rattle.mon_place.specs.Told.{HasLog}
-use Rattle.replay_core.specs.Book.{total}
-use Rattle.replay_core.specs.declared.bad.Bad.{Bad}
 use Rattle.replay_supervisor.specs.Jobs.{Work}
 use Rattle.replay_supervisor.specs.Outcome.{IsSpent, IsStale}
-use Rattle.replay_supervisor.specs.Reading.{bad_in, stale_in}
 use Rattle.replay_supervisor.specs.Steps.{Plan}
 use Rattle.solve_phase.specs.Solving.{IsSolving}
-use Rattle.solve_phase.specs.Told.{IsWithinLimits, ReadsSearch}
+use Rattle.solve_phase.specs.Told.{ReadsSearch}
 use Rattle.solve_phase.specs.declared.solving.Solving.{Solving}
 use Rattle.topology.specs.Topology.{Topo, topology_of}
 
 -- what is told of a call: its topology, the part of its log, that it is in order and answered, and how it is read
-pub record IsInline (contents : Option (List ℕ)) (solving : Solving) (c : CrewCall) (topo : Topo) (work : Work)
+pub record IsInlineSearch (contents : Option (List ℕ)) (solving : Solving) (c : CrewCall) (topo : Topo) (work : Work)
     (part : List Entry) : Type 0 where
   pub limits : IsSolving solving
   pub topology : HasBytes contents (λ bytes. topology_of bytes ≡ Ok topo)
@@ -41,11 +39,6 @@ pub record IsInline (contents : Option (List ℕ)) (solving : Solving) (c : Crew
   pub order : InOrder part
   pub answered : AreAnswered AnswersBytes IsRefused part
   pub reads : ReadsSearch topo.problem solving.nodes work
-
--- nothing is stale or bad in no entry
-none_calm : (work : Work) → IsCalm work []
-unfolding stale_in bad_in
-none_calm work = record { fresh = refl; none_bad = λ job known. refl }
 
 -- a crew that is as it was has no new entry
 idle_calm : (c : CrewCall) (work : Work) (part : List Entry) → HasLog c part → IsIdle c → IsCalm work part
@@ -56,14 +49,14 @@ idle_calm c work part log idle =
 
 outcome_calm : (contents : Option (List ℕ)) (solving : Solving) (c : CrewCall) (outcome : Outcome) (topo : Topo)
     (work : Work) (part : List Entry)
-    → IsInline contents solving c topo work part → HasOutcome contents solving c outcome → IsCalm work part
+    → IsInlineSearch contents solving c topo work part → HasOutcome contents solving c outcome → IsCalm work part
 outcome_calm contents solving c outcome topo work part is has =
     calm_found topo.problem solving c.crew.issued part outcome work is.limits
     (told_outcome contents solving c outcome topo part is.topology is.log has) is.order is.answered is.reads
 
 given_up_calm : (contents : Option (List ℕ)) (solving : Solving) (c : CrewCall) (P : Plan → List Entry → Type 0)
     (topo : Topo) (work : Work) (part : List Entry)
-    → IsInline contents solving c topo work part → IsGivenUp contents solving c P → IsCalm work part
+    → IsInlineSearch contents solving c topo work part → IsGivenUp contents solving c P → IsCalm work part
 given_up_calm contents solving c P topo work part is given =
     calm_given_up topo.problem solving c.crew.issued P part work is.limits
     (told_given_up contents solving c P topo part is.topology is.log given) is.order is.answered is.reads
@@ -71,7 +64,7 @@ given_up_calm contents solving c P topo work part is given =
 -- whatever the status
 pub answers_calm : (contents : Option (List ℕ)) (solving : Solving) (c : CrewCall) (topo : Topo) (work : Work)
     (part : List Entry) (status : Status)
-    → IsInline contents solving c topo work part → PlaceAnswers contents solving c status → IsCalm work part
+    → IsInlineSearch contents solving c topo work part → PlaceAnswers contents solving c status → IsCalm work part
 answers_calm contents solving c topo work part statuses.Done is answers =
     outcome_calm contents solving c (outcomes.Placed answers.is_due.0 answers.is_due.1) topo work part is
     answers.is_due.2.has
@@ -97,14 +90,6 @@ answers_calm contents solving c topo work part statuses.Memory is (inr (inl give
 answers_calm contents solving c topo work part statuses.Memory is (inr (inr (outcome, has)), silent) =
     outcome_calm contents solving c outcome topo work part is has
 answers_calm contents solving c topo work part _ is answers = absurd answers
-
--- a calm log keeps every limit
-pub calm_within : (restarts : ℕ) (work : Work) (part : List Entry) → IsCalm work part
-    → IsWithinLimits restarts work part
-calm_within restarts work part calm = record {
-  few = λ job known. subst (λ (b : Bad). total b ≤ restarts) (sym (calm.none_bad job known)) (omega arith);
-  fresh = omega (arith, calm.fresh);
-}
 
 -- the same of a log that began in the call, as the crew tells it
 pub told_calm : (entries : List Entry) (contents : Option (List ℕ)) (solving : Solving) (c : CrewCall) (topo : Topo)

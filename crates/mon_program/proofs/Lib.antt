@@ -1,2 +1,3 @@
 mod Calm
+mod Measured
 mod Words

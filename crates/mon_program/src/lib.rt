@@ -4,7 +4,8 @@
 //! - `program`: `run_program`, which takes off the words that name the children's program
 //!
 //! `specs/Program.antt` says which words these are. Over children that are answered in this process no event is stale
-//! and no attempt is bad, so that a search always ends with an outcome, unless memory runs out.
+//! and no attempt is bad, so that a search, and a measure, always ends with an outcome, unless memory runs out; and the
+//! accepted replies of a measure's shares are honest.
 #![tactic(auto)]
 
 mod inline;

@@ -18,13 +18,13 @@ use Rattle.clap.proofs.WalkLemmas.{first_value-rows}
 use Rattle.mon_words.specs.Apps.{app_for}
 use Rattle.mon_words.specs.Needs.{IsFresh, IsStrict}
 use Rattle.mon_words.specs.Options.{id_of, options}
-use Rattle.mon_words.specs.Values.{IsBare, takes_option, takes_sketch_options}
+use Rattle.mon_words.specs.Values.{IsBare, takes_option, takes_topology}
 use Rattle.mon_words.specs.declared.command.Command as words
-use Rattle.mon_words.specs.declared.command.Command.TheVariants.{Total, Central, Check, Child, Place}
+use Rattle.mon_words.specs.declared.command.Command.TheVariants.{Total, Central, Measure, Place, Check, Child, Generate, Drill}
 use Rattle.mon_words.specs.declared.opt.Opt.{Opt}
 use Rattle.mon_words.proofs.Arguments.{differs}
 use Rattle.mon_words.proofs.Refusals.{each_app}
-use Rattle.mon_words.specs.declared.opt.Opt.TheVariants.{Seed, Levels, Rows, Width, Heap, Weight, Epoch, Heavy, Nodes, Window, Restarts}
+use Rattle.mon_words.specs.declared.opt.Opt.TheVariants.{Seed, Levels, Rows, Width, Heap, Weight, Epoch, Heavy, Nodes, Window, Restarts, Packets, Flows, Part}
 
 no_first : (xs : List (Bor (List ℕ))) → ((y : Bor (List ℕ)) → 0 < length xs → ⊥)
     → option_map (λ s. s.now) (slice_get xs 0) ≡ None
@@ -112,6 +112,9 @@ of_each p Heavy each = AllPass-from_list_all p options each 7 Seed (omega arith)
 of_each p Nodes each = AllPass-from_list_all p options each 8 Seed (omega arith)
 of_each p Window each = AllPass-from_list_all p options each 9 Seed (omega arith)
 of_each p Restarts each = AllPass-from_list_all p options each 10 Seed (omega arith)
+of_each p Packets each = AllPass-from_list_all p options each 11 Seed (omega arith)
+of_each p Flows each = AllPass-from_list_all p options each 12 Seed (omega arith)
+of_each p Part each = AllPass-from_list_all p options each 13 Seed (omega arith)
 
 -- a command takes an option, or no rule of it has the option's id
 abbrev takes_or_lacks : words.Command → Opt → Bool
@@ -121,9 +124,12 @@ takes_or_lacks_each : (command : words.Command) → list_all (takes_or_lacks com
 unfolding each_app
 takes_or_lacks_each Total = refl
 takes_or_lacks_each Central = refl
+takes_or_lacks_each Measure = refl
+takes_or_lacks_each Place = refl
 takes_or_lacks_each Check = refl
 takes_or_lacks_each Child = refl
-takes_or_lacks_each Place = refl
+takes_or_lacks_each Generate = refl
+takes_or_lacks_each Drill = refl
 
 lacks_option : (command : words.Command) (option : Opt) → takes_option command option ≡ false
     → is_absent (id_of option) (app_for command).top.rules ≡ true
@@ -131,14 +137,17 @@ lacks_option command option none =
     sym (ap (λ takes. takes || is_absent (id_of option) (app_for command).top.rules) none)
     ∙ of_each (takes_or_lacks command) option (takes_or_lacks_each command)
 
-lacks_topology : (command : words.Command) → takes_sketch_options command ≡ false
+lacks_topology : (command : words.Command) → takes_topology command ≡ false
     → is_absent (codes "topology") (app_for command).top.rules ≡ true
 unfolding each_app
 lacks_topology Total none = refl
 lacks_topology Central none = absurd (true≢false none)
+lacks_topology Measure none = refl
+lacks_topology Place none = refl
 lacks_topology Check none = refl
 lacks_topology Child none = refl
-lacks_topology Place none = refl
+lacks_topology Generate none = refl
+lacks_topology Drill none = refl
 
 -- the words of a command give nothing that it doesn't take
 pub bare_words : (command : words.Command) (app : Command) (m : ArgMatches) → IsStrict app → IsParsedFrom app m

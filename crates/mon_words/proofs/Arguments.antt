@@ -2,7 +2,7 @@
 use Rattle.std.proofs.Common.{◌≡◌, ◌+◌, ◌<◌, ◌≤◌, ℕ, List, [], ◌∷◌, ◌++◌, length, true, false, true≢false, sym, ap, subst, ◌∙◌, arith, inl, inr, codes, ◌||◌, length-append, is_some, refl}
 use Rattle.std.specs.Borrow.{Bor}
 use Rattle.std.specs.Prelude.{bytes_eq}
-use Rattle.std.specs.List.{slice_index_or}
+use Rattle.std.specs.List.{AllByRecursion, slice_index_or}
 use Rattle.std.proofs.Math.Seq.{get_or-append_seam}
 use Rattle.std.proofs.lemmas.Bool.{cases_lt}
 use Rattle.std.proofs.lemmas.List.{get_or_append_left}
@@ -15,10 +15,10 @@ use Rattle.clap.specs.declared.parser.matches.ArgMatches.{ArgMatches}
 use Rattle.clap.proofs.CallerLemmas.{added_plain, required_has_value}
 use Rattle.clap.proofs.WalkLemmas.{first_value-rows}
 use Rattle.std.proofs.lemmas.Slice.Eq.{bytes_eq-Decides}
-use Rattle.mon_words.specs.Apps.{name_ids}
+use Rattle.mon_words.specs.Apps.{required_ids}
 use Rattle.mon_words.specs.Values.{IsNamed}
 use Rattle.mon_words.specs.declared.command.Command as words
-use Rattle.mon_words.specs.declared.command.Command.TheVariants.{Total, Central, Check, Child, Place}
+use Rattle.mon_words.specs.declared.command.Command.TheVariants.{Total, Central, Measure, Place, Check, Child, Generate, Drill}
 use Rattle.mon_words.specs.Needs.{IsFresh, IsStrict, Needs, NeedsEach}
 
 -- an argument that is plain lifts no need
@@ -151,32 +151,35 @@ name_is_given id app m strict needs parsed named help version =
 pub differs : (id text : List ℕ) → bytes_eq id text ≡ false → id ≡ text → ⊥
 differs id text other same = true≢false (sym ((bytes_eq-Decides id text).1 same) ∙ other)
 
--- where the words are taken, each name is given
+-- this id is not of clap's own
+abbrev IsOwn : List ℕ → Type 0
+IsOwn id = (bytes_eq id [] ≡ false) × (bytes_eq id (codes "help") ≡ false) × (bytes_eq id (codes "version") ≡ false)
+
+-- where the words are taken, each of the ids that are needed is given
+each_is_given : (ids : List (List ℕ)) (app : Command) (m : ArgMatches) → IsStrict app → NeedsEach ids app
+    → IsParsedFrom app m
+    → AllByRecursion IsOwn ids
+    → AllByRecursion (λ id. is_some (first_of id (rows_of (found_of m))) ≡ true) ids
+each_is_given [] app m strict needs parsed own = tt
+each_is_given (id ∷ ids) app m strict needs parsed own = (
+  name_is_given id app m strict needs.0 parsed (differs id [] own.0.0) (differs id (codes "help") own.0.1)
+      (differs id (codes "version") own.0.2),
+  each_is_given ids app m strict needs.1 parsed own.1,
+)
+
+are_own : (command : words.Command) → AllByRecursion IsOwn (required_ids command)
+are_own Total = ((refl, refl, refl), tt)
+are_own Central = ((refl, refl, refl), tt)
+are_own Measure = ((refl, refl, refl), ((refl, refl, refl), tt))
+are_own Place = ((refl, refl, refl), tt)
+are_own Check = ((refl, refl, refl), ((refl, refl, refl), tt))
+are_own Child = tt
+are_own Generate = ((refl, refl, refl), tt)
+are_own Drill = tt
+
+-- where the words are taken, each that is required is given
 pub names_are_given : (command : words.Command) (app : Command) (m : ArgMatches) → IsStrict app
-    → NeedsEach (name_ids command) app → IsParsedFrom app m
+    → NeedsEach (required_ids command) app → IsParsedFrom app m
     → IsNamed command (rows_of (found_of m))
-names_are_given Total app m strict needs parsed = (
-  name_is_given (codes "TRACE") app m strict needs.0 parsed (differs (codes "TRACE") [] refl)
-      (differs (codes "TRACE") (codes "help") refl) (differs (codes "TRACE") (codes "version") refl),
-  tt,
-)
-names_are_given Central app m strict needs parsed = (
-  name_is_given (codes "TRACE") app m strict needs.0 parsed (differs (codes "TRACE") [] refl)
-      (differs (codes "TRACE") (codes "help") refl) (differs (codes "TRACE") (codes "version") refl),
-  tt,
-)
-names_are_given Check app m strict needs parsed = (
-  name_is_given (codes "TOPOLOGY") app m strict needs.0 parsed (differs (codes "TOPOLOGY") [] refl)
-      (differs (codes "TOPOLOGY") (codes "help") refl) (differs (codes "TOPOLOGY") (codes "version") refl),
-  (
-    name_is_given (codes "TREE") app m strict needs.1.0 parsed (differs (codes "TREE") [] refl)
-        (differs (codes "TREE") (codes "help") refl) (differs (codes "TREE") (codes "version") refl),
-    tt,
-  ),
-)
-names_are_given Child app m strict needs parsed = tt
-names_are_given Place app m strict needs parsed = (
-  name_is_given (codes "TOPOLOGY") app m strict needs.0 parsed (differs (codes "TOPOLOGY") [] refl)
-      (differs (codes "TOPOLOGY") (codes "help") refl) (differs (codes "TOPOLOGY") (codes "version") refl),
-  tt,
-)
+names_are_given command app m strict needs parsed =
+    each_is_given (required_ids command) app m strict needs parsed (are_own command)

@@ -12,13 +12,14 @@ use borrow.Author.Tests.{ne_eqb}
 use Rattle.clap.specs.Lexer.{long_of, short_of}
 use Rattle.clap.specs.Words.{Row, first_of}
 use Rattle.clap.proofs.OnLiterals.{clap_on_literals}
-use Rattle.mon_words.specs.Apps.{central_app, check_app, child_app, place_app, total_app, with_sketch_options, with_solve_options, with_trace_options}
+use Rattle.mon_words.specs.Apps.{central_app, check_app, child_app, drill_app, generate_app, measure_app, place_app, total_app, with_made_options, with_sketch_options, with_solve_options, with_trace_options}
 use Rattle.mon_words.specs.Options.{id_of, takes}
-use Rattle.mon_words.specs.Plain.{IsPlain, plain_values}
+use Rattle.mon_words.specs.Plain.{IsPlain, plain_part, plain_values}
 use Rattle.mon_words.specs.Values.{is_taken, read_of, rest_of, rows_in, words_of}
-use Rattle.mon_words.specs.declared.command.Command.TheVariants.{Total, Central, Check, Child, Place}
+use Rattle.mon_words.specs.declared.command.Command.TheVariants.{Total, Central, Measure, Place, Check, Child, Drill}
+use Rattle.mon_words.specs.declared.part.Part.TheVariants.{Trace, Topology}
 use Rattle.mon_words.proofs.Numerals.{own}
-use Rattle.mon_words.specs.declared.opt.Opt.TheVariants.{Seed, Levels, Rows, Width, Heap, Weight, Epoch, Heavy, Nodes, Window, Restarts}
+use Rattle.mon_words.specs.declared.opt.Opt.TheVariants.{Seed, Levels, Rows, Width, Heap, Weight, Epoch, Heavy, Nodes, Window, Restarts, Packets, Flows, Part}
 
 long_none : (byte : ℕ) (word : List ℕ) → IsPlain (byte ∷ word) → long_of (byte ∷ word) ≡ None
 long_none byte word plain = rw plain refl
@@ -74,6 +75,9 @@ record HasEpoch (rows : List Row) (name value : List ℕ) : Type 0 where
   no_nodes : first_of (id_of Nodes) rows ≡ None
   no_window : first_of (id_of Window) rows ≡ None
   no_restarts : first_of (id_of Restarts) rows ≡ None
+  no_packets : first_of (id_of Packets) rows ≡ None
+  no_flows : first_of (id_of Flows) rows ≡ None
+  no_part : first_of (id_of Part) rows ≡ None
 
 abbrev epoch_words : List ℕ → List ℕ → List (List ℕ)
 epoch_words name value = name ∷ codes "--epoch" ∷ value ∷ []
@@ -104,6 +108,9 @@ has_epoch a name b value p q =
       no_nodes = refl;
       no_window = refl;
       no_restarts = refl;
+      no_packets = refl;
+      no_flows = refl;
+      no_part = refl;
     })
 
 has_epoch_nameless : (b : ℕ) (value : List ℕ) → IsPlain (b ∷ value)
@@ -125,6 +132,9 @@ has_epoch_nameless b value q =
       no_nodes = refl;
       no_window = refl;
       no_restarts = refl;
+      no_packets = refl;
+      no_flows = refl;
+      no_part = refl;
     })
 
 taken_epoch : (a : ℕ) (name : List ℕ) (b : ℕ) (value : List ℕ) → IsPlain (a ∷ name) → IsPlain (b ∷ value)
@@ -161,6 +171,9 @@ read_epoch rows name value has taken =
       has.no_nodes,
       has.no_window,
       has.no_restarts,
+      has.no_packets,
+      has.no_flows,
+      has.no_part,
     )
     (rw taken refl)
 
@@ -215,3 +228,31 @@ unfolding is_taken rows_in clap_on_literals place_app with_solve_options
 place_plain [] plain = refl
 place_plain (byte ∷ name) plain =
     rw (no_escape byte name plain, long_none byte name plain, short_none byte name plain) refl
+
+pub measure_plain : (topology trace : List ℕ) → IsPlain topology → IsPlain trace
+    → words_of true (codes "measure" ∷ topology ∷ trace ∷ []) ≡ Ok (plain_values Measure (topology ∷ trace ∷ []) None)
+unfolding is_taken rows_in clap_on_literals measure_app with_sketch_options with_trace_options with_solve_options
+measure_plain [] [] p q = refl
+measure_plain [] (b ∷ trace) p q = rw (no_escape b trace q, long_none b trace q, short_none b trace q) refl
+measure_plain (a ∷ topology) [] p q = rw (no_escape a topology p, long_none a topology p, short_none a topology p) refl
+measure_plain (a ∷ topology) (b ∷ trace) p q =
+    rw (
+      no_escape a topology p,
+      long_none a topology p,
+      short_none a topology p,
+      no_escape b trace q,
+      long_none b trace q,
+      short_none b trace q,
+    ) refl
+
+pub drill_plain : words_of true (codes "drill" ∷ []) ≡ Ok (plain_values Drill [] None)
+unfolding is_taken rows_in clap_on_literals drill_app with_sketch_options with_trace_options with_solve_options with_made_options
+drill_plain = refl
+
+pub trace_plain : (all : Bool) → words_of all (codes "generate" ∷ codes "trace" ∷ []) ≡ Ok (plain_part Trace)
+unfolding is_taken rows_in clap_on_literals generate_app with_made_options
+trace_plain all = refl
+
+pub topology_plain : (all : Bool) → words_of all (codes "generate" ∷ codes "topology" ∷ []) ≡ Ok (plain_part Topology)
+unfolding is_taken rows_in clap_on_literals generate_app with_made_options
+topology_plain all = refl

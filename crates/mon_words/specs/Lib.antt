@@ -1,4 +1,5 @@
 pub mod Apps
+pub mod Groups
 pub mod Needs
 pub mod Options
 pub mod Plain

@@ -17,6 +17,10 @@ pub record IsStrict (app : Command) : Type 0 where
 abbrev pub IsFresh : List ℕ → List Arg → Type 0
 IsFresh id args = (k : ℕ) (d : Arg) → k < length args → bytes_eq (slice_index_or args k d).id.now id ≡ false
 
+-- none of these ids is this one
+abbrev pub AreOther : List (List ℕ) → List ℕ → Type 0
+AreOther ids id = AllByRecursion (λ other. bytes_eq other id ≡ false) ids
+
 -- one argument alone has this id, and it has to be given with a value
 pub record Needs (id : List ℕ) (app : Command) : Type 0 where
   pub place : ℕ

@@ -1,8 +1,11 @@
 -- What plain words ask for.
-use Rattle.std.specs.Prelude.{◌≡◌, ◌==◌, ℕ, List, false, None, Option, slice_index}
+use Rattle.std.specs.Prelude.{◌≡◌, ◌==◌, ℕ, List, [], false, None, Option, slice_index}
 use Rattle.mon_words.specs.Options.{default_heap}
 use Rattle.mon_words.specs.Values.{Values}
 use Rattle.mon_words.specs.declared.command.Command.{Command}
+use Rattle.mon_words.specs.declared.command.Command.TheVariants.{Generate}
+use Rattle.mon_words.specs.declared.part.Part.{Part}
+use Rattle.mon_words.specs.declared.part.Part.TheVariants.{Trace}
 
 -- a word that doesn't begin with a hyphen
 abbrev pub IsPlain : List ℕ → Type 0
@@ -13,6 +16,7 @@ abbrev pub plain_values : Command → List (List ℕ) → Option ℕ → Values
 plain_values command names epoch = record {
   command = command;
   names = names;
+  part = Trace;
   topology = None;
   seed = 1;
   levels = 12;
@@ -25,4 +29,10 @@ plain_values command names epoch = record {
   nodes = 1024;
   window = 4;
   restarts = 3;
+  packets = 200000;
+  flows = 20000;
 }
+
+-- `generate` with what is made, and each option with its default
+abbrev pub plain_part : Part → Values
+plain_part part = record (plain_values Generate [] None) { part = part }

@@ -5,21 +5,24 @@ use Rattle.std.specs.Option.{option_map, option_map_or}
 use Rattle.std.specs.Str.Parse.{digits_value}
 use Rattle.clap.specs.Words.{Row, fault_of, first_of, matches_of}
 use Rattle.hash_family.specs.Limits.{is_rows, is_width}
-use Rattle.mon_words.specs.Apps.{app_for, name_ids}
-use Rattle.mon_words.specs.Options.{default_heap, id_of, options, takes}
+use Rattle.mon_words.specs.Apps.{app_for, name_ids, required_ids}
+use Rattle.mon_words.specs.Options.{default_heap, id_of, least_heap, options, takes}
 use Rattle.mon_words.specs.declared.command.Command.{Command}
-use Rattle.mon_words.specs.declared.command.Command.TheVariants.{Total, Central, Check, Child, Place}
+use Rattle.mon_words.specs.declared.command.Command.TheVariants.{Total, Central, Measure, Place, Check, Child, Generate, Drill}
 use Rattle.mon_words.specs.declared.opt.Opt.{Opt}
-use Rattle.mon_words.specs.declared.opt.Opt.TheVariants.{Seed, Levels, Rows, Width, Heap, Weight, Epoch, Heavy, Nodes, Window, Restarts}
+use Rattle.mon_words.specs.declared.opt.Opt.TheVariants as opts
+use Rattle.mon_words.specs.declared.part.Part.{Part}
+use Rattle.mon_words.specs.declared.part.Part.TheVariants.{Trace, Topology}
 use Rattle.mon_words.specs.declared.usage_fault.UsageFault.{UsageFault}
 use Rattle.mon_words.specs.declared.usage_fault.UsageFault.TheVariants.{NoCommand, UnknownCommand, Refused, Value}
 use Rattle.mon_words.specs.declared.words_fault.WordsFault.{WordsFault}
 use Rattle.mon_words.specs.declared.words_fault.WordsFault.TheVariants.{Usage, Memory}
 
--- a command with its names in order, a topology where one is named, and the values of its options
+-- a command with its names in order, what is made, a topology where one is named, and the values of its options
 pub record Values : Type 0 where
   pub command : Command
   pub names : List (List ℕ)
+  pub part : Part
   pub topology : Option (List ℕ)
   pub seed : ℕ
   pub levels : ℕ
@@ -32,44 +35,87 @@ pub record Values : Type 0 where
   pub nodes : ℕ
   pub window : ℕ
   pub restarts : ℕ
+  pub packets : ℕ
+  pub flows : ℕ
 
 -- how many names a command takes
 abbrev pub name_count : Command → ℕ
 name_count Total = 1
 name_count Central = 1
+name_count Measure = 2
+name_count Place = 1
 name_count Check = 2
 name_count Child = 0
-name_count Place = 1
+name_count Generate = 0
+name_count Drill = 0
 
 -- whether a command starts children
 abbrev pub starts_children : Command → Bool
+starts_children Measure = true
 starts_children Place = true
+starts_children Drill = true
 starts_children _ = false
 
--- whether a command takes a topology and the options of a sketch and of a trace
+-- whether a command takes the name of a topology as an option
+abbrev pub takes_topology : Command → Bool
+takes_topology Central = true
+takes_topology _ = false
+
+-- whether a command takes the options of a sketch but the seed, and those of a trace
 abbrev pub takes_sketch_options : Command → Bool
 takes_sketch_options Central = true
+takes_sketch_options Measure = true
+takes_sketch_options Drill = true
 takes_sketch_options _ = false
+
+-- whether a command takes a seed, of a sketch or of a made trace
+abbrev pub takes_seed : Command → Bool
+takes_seed Generate = true
+takes_seed command = takes_sketch_options command
 
 -- whether a command takes the options of a search
 abbrev pub takes_solve_options : Command → Bool
+takes_solve_options Measure = true
 takes_solve_options Place = true
+takes_solve_options Drill = true
 takes_solve_options _ = false
+
+-- whether a command takes the numbers of a made trace
+abbrev pub takes_made_options : Command → Bool
+takes_made_options Generate = true
+takes_made_options Drill = true
+takes_made_options _ = false
+
+-- whether a command takes what is made
+abbrev pub takes_part : Command → Bool
+takes_part Generate = true
+takes_part _ = false
 
 -- whether a command takes an option
 abbrev pub takes_option : Command → Opt → Bool
-takes_option command Nodes = takes_solve_options command
-takes_option command Window = takes_solve_options command
-takes_option command Restarts = takes_solve_options command
-takes_option command _ = takes_sketch_options command
+takes_option command opts.Seed = takes_seed command
+takes_option command opts.Levels = takes_sketch_options command
+takes_option command opts.Rows = takes_sketch_options command
+takes_option command opts.Width = takes_sketch_options command
+takes_option command opts.Heap = takes_sketch_options command
+takes_option command opts.Weight = takes_sketch_options command
+takes_option command opts.Epoch = takes_sketch_options command
+takes_option command opts.Heavy = takes_sketch_options command
+takes_option command opts.Nodes = takes_solve_options command
+takes_option command opts.Window = takes_solve_options command
+takes_option command opts.Restarts = takes_solve_options command
+takes_option command opts.Packets = takes_made_options command
+takes_option command opts.Flows = takes_made_options command
+takes_option command opts.Part = takes_part command
 
--- the numbers are within their limits, where a heap of 0 keeps all live keys, and there are as many names as the
--- command takes
+-- the numbers are within their limits, where a heap of 0, which `central` alone takes, keeps all live keys, and there
+-- are as many names as the command takes
 pub record IsInRange (values : Values) : Type 0 where
   pub names : length values.names ≡ name_count values.command
   pub levels_up_to : values.levels ≤ 16
   pub are_rows : IsTrue (is_rows values.rows)
   pub are_wide : IsTrue (is_width values.width)
+  pub heap_from : least_heap values.command ≤ values.heap
   pub heap_up_to : values.heap ≤ 1024
   pub epoch_from : IfSome values.epoch (λ seconds. 1 ≤ seconds)
   pub heavy_from : 1 ≤ values.heavy
@@ -79,11 +125,12 @@ pub record IsInRange (values : Values) : Type 0 where
   pub window_from : 1 ≤ values.window
   pub window_to : values.window ≤ 32
   pub restarts_to : values.restarts ≤ 16
+  pub packets_to : values.packets ≤ 1048576
+  pub flows_from : 1 ≤ values.flows
+  pub flows_to : values.flows ≤ 65536
 
--- no topology is named, and each option of a sketch and of a trace has its default
+-- each option of a sketch but the seed, and each of a trace, has its default
 pub record HasSketchDefaults (values : Values) : Type 0 where
-  pub no_topology : values.topology ≡ None
-  pub seed_is : values.seed ≡ 1
   pub levels_are : values.levels ≡ 12
   pub rows_are : values.rows ≡ 5
   pub width_is : values.width ≡ 1024
@@ -98,10 +145,19 @@ pub record HasSolveDefaults (values : Values) : Type 0 where
   pub window_is : values.window ≡ 4
   pub restarts_are : values.restarts ≡ 3
 
--- what the command doesn't take has its default
+-- each number of a made trace has its default
+pub record HasMadeDefaults (values : Values) : Type 0 where
+  pub packets_are : values.packets ≡ 200000
+  pub flows_are : values.flows ≡ 20000
+
+-- what the command doesn't take has its default: no topology is named, and a trace is what is made
 pub record HasDefaults (values : Values) : Type 0 where
+  pub seed : takes_seed values.command ≡ false → values.seed ≡ 1
   pub sketch : takes_sketch_options values.command ≡ false → HasSketchDefaults values
+  pub topology : takes_topology values.command ≡ false → values.topology ≡ None
   pub solve : takes_solve_options values.command ≡ false → HasSolveDefaults values
+  pub made : takes_made_options values.command ≡ false → HasMadeDefaults values
+  pub part : takes_part values.command ≡ false → values.part ≡ Trace
 
 -- the command that a word names, of all or of those that start no children
 abbrev pub command_of : Bool → List ℕ → Option Command
@@ -110,7 +166,10 @@ command_of all word =
     else if bytes_eq word (codes "central") then Some Central
     else if bytes_eq word (codes "check") then Some Check
     else if bytes_eq word (codes "child") then Some Child
+    else if bytes_eq word (codes "generate") then Some Generate
+    else if all && bytes_eq word (codes "measure") then Some Measure
     else if all && bytes_eq word (codes "place") then Some Place
+    else if all && bytes_eq word (codes "drill") then Some Drill
     else None
 
 -- clap's definition of the command takes the words behind its name
@@ -123,12 +182,12 @@ rows_in command words = matches_of (app_for command) words
 
 -- neither a topology nor an option is given that the command doesn't take
 pub record IsBare (command : Command) (rows : List Row) : Type 0 where
-  pub no_topology : takes_sketch_options command ≡ false → first_of (codes "topology") rows ≡ None
+  pub no_topology : takes_topology command ≡ false → first_of (codes "topology") rows ≡ None
   pub no_option : (option : Opt) → takes_option command option ≡ false → first_of (id_of option) rows ≡ None
 
--- each name of the command is given
+-- each word that the command requires is given
 abbrev pub IsNamed : Command → List Row → Type 0
-IsNamed command rows = AllByRecursion (λ id. is_some (first_of id rows) ≡ true) (name_ids command)
+IsNamed command rows = AllByRecursion (λ id. is_some (first_of id rows) ≡ true) (required_ids command)
 
 -- an option is given a value that it doesn't take
 abbrev pub is_refused : Command → List Row → Opt → Bool
@@ -145,7 +204,13 @@ number_or rows option default = option_map_or (digits_value 10) (first_of (id_of
 
 -- whether packets weigh their bytes
 abbrev pub weighs_bytes : List Row → Bool
-weighs_bytes rows = option_map_or (λ value. bytes_eq value (codes "bytes")) (first_of (id_of Weight) rows) false
+weighs_bytes rows = option_map_or (λ value. bytes_eq value (codes "bytes")) (first_of (id_of opts.Weight) rows) false
+
+-- what is made: a topology where it is asked for, and else a trace
+abbrev pub part_in : List Row → Part
+part_in rows =
+    if option_map_or (λ value. bytes_eq value (codes "topology")) (first_of (id_of opts.Part) rows) false then Topology
+    else Trace
 
 -- the name with this id, where it is given
 abbrev pub name_in : List Row → List ℕ → List (List ℕ)
@@ -155,23 +220,26 @@ name_in rows id = option_map_or (λ name. name ∷ []) (first_of id rows) []
 abbrev pub names_in : Command → List Row → List (List ℕ)
 names_in command rows = flat_map (name_in rows) (name_ids command)
 
--- the names, the texts and the numbers, each that is not given with its default
+-- the names, the words, the texts and the numbers, each that is not given with its default
 abbrev pub values_in : Command → List Row → Values
 values_in command rows = record {
   command = command;
   names = names_in command rows;
+  part = part_in rows;
   topology = first_of (codes "topology") rows;
-  seed = number_or rows Seed 1;
-  levels = number_or rows Levels 12;
-  rows = number_or rows Rows 5;
-  width = number_or rows Width 1024;
-  heap = number_or rows Heap (default_heap command);
+  seed = number_or rows opts.Seed 1;
+  levels = number_or rows opts.Levels 12;
+  rows = number_or rows opts.Rows 5;
+  width = number_or rows opts.Width 1024;
+  heap = number_or rows opts.Heap (default_heap command);
   bytes = weighs_bytes rows;
-  epoch = option_map (digits_value 10) (first_of (id_of Epoch) rows);
-  heavy = number_or rows Heavy 10;
-  nodes = number_or rows Nodes 1024;
-  window = number_or rows Window 4;
-  restarts = number_or rows Restarts 3;
+  epoch = option_map (digits_value 10) (first_of (id_of opts.Epoch) rows);
+  heavy = number_or rows opts.Heavy 10;
+  nodes = number_or rows opts.Nodes 1024;
+  window = number_or rows opts.Window 4;
+  restarts = number_or rows opts.Restarts 3;
+  packets = number_or rows opts.Packets 200000;
+  flows = number_or rows opts.Flows 20000;
 }
 
 -- what is read of a command's words, unless the value of an option is refused

@@ -2,8 +2,8 @@
 ghost use Rattle.std.specs.Prelude.{◌≡◌, ℕ, List, [], IfOk, codes, bytes_eq, true, false};
 ghost use Rattle.clap.specs.Built.{IsPlainArg, TakesValue};
 ghost use Rattle.clap.specs.Words.{app_of, args_of, rule_of};
-ghost use Rattle.mon_words.specs.Apps.{bare_app, central_app, check_app, child_app, name_rule, option_rule, place_app, total_app, with_name, with_option, with_sketch_options, with_solve_options, with_trace_options};
-ghost use Rattle.mon_words.specs.Needs.{IsFresh, IsStrict, Needs};
+ghost use Rattle.mon_words.specs.Apps.{bare_app, central_app, check_app, child_app, drill_app, generate_app, made_ids, measure_app, name_rule, option_rule, place_app, sketch_ids, solve_ids, total_app, trace_ids, with_made_options, with_name, with_option, with_sketch_options, with_solve_options, with_trace_options};
+ghost use Rattle.mon_words.specs.Needs.{AreOther, IsFresh, IsStrict, Needs};
 
 use clap::{Arg, ArgAction, Command};
 use std::alloc::{AllocError, Global};
@@ -28,6 +28,35 @@ pub(crate) fn central_app<'a>(alloc: Global) -> Result<Command<'a>, AllocError>
     let app = with_name(alloc, bare_app(alloc, "central"), "TRACE")?;
     let app = with_sketch_options(alloc, app)?;
     let app = with_trace_options(alloc, app)?;
+    let app = with_option(alloc, app, "topology")?;
+    Ok(app)
+}
+
+/// The words behind `measure`.
+#[tactic(auto, unfolding(crate::specs::Apps::measure_app))]
+pub(crate) fn measure_app<'a>(alloc: Global) -> Result<Command<'a>, AllocError>
+    ensures app { IfOk result (λ app. app_of app ≡ measure_app) }
+    ensures strict { IfOk result IsStrict }
+    ensures topology { IfOk result (Needs (codes "TOPOLOGY")) }
+    ensures trace { IfOk result (Needs (codes "TRACE")) }
+{
+    let app = with_name(alloc, bare_app(alloc, "measure"), "TOPOLOGY")?;
+    let app = with_name(alloc, app, "TRACE")?;
+    let app = with_sketch_options(alloc, app)?;
+    let app = with_trace_options(alloc, app)?;
+    let app = with_solve_options(alloc, app)?;
+    Ok(app)
+}
+
+/// The words behind `place`.
+#[tactic(auto, unfolding(crate::specs::Apps::place_app))]
+pub(crate) fn place_app<'a>(alloc: Global) -> Result<Command<'a>, AllocError>
+    ensures app { IfOk result (λ app. app_of app ≡ place_app) }
+    ensures strict { IfOk result IsStrict }
+    ensures needs { IfOk result (Needs (codes "TOPOLOGY")) }
+{
+    let app = with_name(alloc, bare_app(alloc, "place"), "TOPOLOGY")?;
+    let app = with_solve_options(alloc, app)?;
     Ok(app)
 }
 
@@ -52,15 +81,29 @@ pub(crate) fn child_app<'a>(alloc: Global) -> Result<Command<'a>, AllocError>
     Ok(bare_app(alloc, "child"))
 }
 
-/// The words behind `place`.
-#[tactic(auto, unfolding(crate::specs::Apps::place_app))]
-pub(crate) fn place_app<'a>(alloc: Global) -> Result<Command<'a>, AllocError>
-    ensures app { IfOk result (λ app. app_of app ≡ place_app) }
+/// The words behind `generate`.
+#[tactic(auto, unfolding(crate::specs::Apps::generate_app))]
+pub(crate) fn generate_app<'a>(alloc: Global) -> Result<Command<'a>, AllocError>
+    ensures app { IfOk result (λ app. app_of app ≡ generate_app) }
     ensures strict { IfOk result IsStrict }
-    ensures needs { IfOk result (Needs (codes "TOPOLOGY")) }
+    ensures needs { IfOk result (Needs (codes "PART")) }
 {
-    let app = with_name(alloc, bare_app(alloc, "place"), "TOPOLOGY")?;
+    let app = with_name(alloc, bare_app(alloc, "generate"), "PART")?;
+    let app = with_option(alloc, app, "seed")?;
+    let app = with_made_options(alloc, app)?;
+    Ok(app)
+}
+
+/// The words behind `drill`: options alone.
+#[tactic(auto, unfolding(crate::specs::Apps::drill_app))]
+pub(crate) fn drill_app<'a>(alloc: Global) -> Result<Command<'a>, AllocError>
+    ensures app { IfOk result (λ app. app_of app ≡ drill_app) }
+    ensures strict { IfOk result IsStrict }
+{
+    let app = with_sketch_options(alloc, bare_app(alloc, "drill"))?;
+    let app = with_trace_options(alloc, app)?;
     let app = with_solve_options(alloc, app)?;
+    let app = with_made_options(alloc, app)?;
     Ok(app)
 }
 
@@ -68,10 +111,9 @@ pub(crate) fn place_app<'a>(alloc: Global) -> Result<Command<'a>, AllocError>
 #[tactic(auto, unfolding(crate::specs::Apps::with_sketch_options))]
 fn with_sketch_options<'a>(alloc: Global, app: Command<'a>) -> Result<Command<'a>, AllocError>
     requires strict { IsStrict app }
-    requires needs { Needs (codes "TRACE") app }
     ensures app { IfOk result (λ more. app_of more ≡ with_sketch_options (app_of app.entry)) }
     ensures strict { IfOk result IsStrict }
-    ensures needs { IfOk result (Needs (codes "TRACE")) }
+    ensures needs { (name : List ℕ) → AreOther sketch_ids name → Needs name app.entry → IfOk result (Needs name) }
 {
     let app = with_option(alloc, app, "seed")?;
     let app = with_option(alloc, app, "levels")?;
@@ -82,18 +124,16 @@ fn with_sketch_options<'a>(alloc: Global, app: Command<'a>) -> Result<Command<'a
     Ok(app)
 }
 
-// With the options of epochs, of heavy keys and of a topology.
+// With the options of epochs and of heavy keys.
 #[tactic(auto, unfolding(crate::specs::Apps::with_trace_options))]
 fn with_trace_options<'a>(alloc: Global, app: Command<'a>) -> Result<Command<'a>, AllocError>
     requires strict { IsStrict app }
-    requires needs { Needs (codes "TRACE") app }
     ensures app { IfOk result (λ more. app_of more ≡ with_trace_options (app_of app.entry)) }
     ensures strict { IfOk result IsStrict }
-    ensures needs { IfOk result (Needs (codes "TRACE")) }
+    ensures needs { (name : List ℕ) → AreOther trace_ids name → Needs name app.entry → IfOk result (Needs name) }
 {
     let app = with_option(alloc, app, "epoch")?;
     let app = with_option(alloc, app, "heavy")?;
-    let app = with_option(alloc, app, "topology")?;
     Ok(app)
 }
 
@@ -101,14 +141,26 @@ fn with_trace_options<'a>(alloc: Global, app: Command<'a>) -> Result<Command<'a>
 #[tactic(auto, unfolding(crate::specs::Apps::with_solve_options))]
 fn with_solve_options<'a>(alloc: Global, app: Command<'a>) -> Result<Command<'a>, AllocError>
     requires strict { IsStrict app }
-    requires needs { Needs (codes "TOPOLOGY") app }
     ensures app { IfOk result (λ more. app_of more ≡ with_solve_options (app_of app.entry)) }
     ensures strict { IfOk result IsStrict }
-    ensures needs { IfOk result (Needs (codes "TOPOLOGY")) }
+    ensures needs { (name : List ℕ) → AreOther solve_ids name → Needs name app.entry → IfOk result (Needs name) }
 {
     let app = with_option(alloc, app, "nodes")?;
     let app = with_option(alloc, app, "window")?;
     let app = with_option(alloc, app, "restarts")?;
+    Ok(app)
+}
+
+// With the options of a made trace.
+#[tactic(auto, unfolding(crate::specs::Apps::with_made_options))]
+fn with_made_options<'a>(alloc: Global, app: Command<'a>) -> Result<Command<'a>, AllocError>
+    requires strict { IsStrict app }
+    ensures app { IfOk result (λ more. app_of more ≡ with_made_options (app_of app.entry)) }
+    ensures strict { IfOk result IsStrict }
+    ensures needs { (name : List ℕ) → AreOther made_ids name → Needs name app.entry → IfOk result (Needs name) }
+{
+    let app = with_option(alloc, app, "packets")?;
+    let app = with_option(alloc, app, "flows")?;
     Ok(app)
 }
 

@@ -10,12 +10,18 @@ pub enum Command {
     Total,
     /// `central`: sketches a trace.
     Central,
+    /// `measure`: places the paths of a topology, and sketches a trace where they are placed.
+    Measure,
+    /// `place`: places the paths of a topology.
+    Place,
     /// `check`: checks a tree against a topology.
     Check,
     /// `child`: reads a job, and writes its reply.
     Child,
-    /// `place`: places the paths of a topology.
-    Place,
+    /// `generate`: makes a trace or a topology.
+    Generate,
+    /// `drill`: measures a made trace over a made topology.
+    Drill,
 }
 
 impl Command {
@@ -32,8 +38,14 @@ impl Command {
             Some(Command::Check)
         } else if word == "child" {
             Some(Command::Child)
+        } else if word == "generate" {
+            Some(Command::Generate)
+        } else if all && word == "measure" {
+            Some(Command::Measure)
         } else if all && word == "place" {
             Some(Command::Place)
+        } else if all && word == "drill" {
+            Some(Command::Drill)
         } else {
             None
         }
@@ -47,9 +59,12 @@ impl Command {
         match self {
             Command::Total => 64,
             Command::Central => 0,
+            Command::Measure => 64,
+            Command::Place => 64,
             Command::Check => 64,
             Command::Child => 64,
-            Command::Place => 64,
+            Command::Generate => 64,
+            Command::Drill => 64,
         }
     }
 
@@ -58,8 +73,14 @@ impl Command {
         ensures number { result ≡ least_heap self }
     {
         match self {
-            Command::Total | Command::Check | Command::Child | Command::Place => 1,
+            Command::Total => 1,
             Command::Central => 0,
+            Command::Measure => 1,
+            Command::Place => 1,
+            Command::Check => 1,
+            Command::Child => 1,
+            Command::Generate => 1,
+            Command::Drill => 1,
         }
     }
 }

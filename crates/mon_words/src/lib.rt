@@ -4,7 +4,8 @@
 //! - `command`: `Command`, which the first word names
 //! - `app`: the words behind each command, as a definition of the crate clap
 //! - `matches`: what clap reads in them, and the texts and numbers there
-//! - `opt`: `Opt`, the options with a value; `numeral`: the number that a value spells
+//! - `opt`: `Opt`, the options with a value; `part`: `Part`, what is made; `numeral`: the number that a value spells
+//! - `groups`: the values of the options, of a sketch, of a search and of what is made
 //! - `usage_fault`, `words_fault`: why words are refused
 //! - `laws`: what plain words ask for
 //!
@@ -14,10 +15,12 @@
 
 mod app;
 mod command;
+mod groups;
 mod laws;
 mod matches;
 mod numeral;
 mod opt;
+mod part;
 mod usage_fault;
 mod words;
 mod words_fault;
@@ -25,6 +28,7 @@ mod words_fault;
 pub use command::Command;
 pub use laws::plain_words;
 pub use opt::Opt;
+pub use part::Part;
 pub use usage_fault::UsageFault;
 pub use words::{Words, read_words};
 pub use words_fault::WordsFault;

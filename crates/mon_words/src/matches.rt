@@ -2,12 +2,14 @@
 ghost use Rattle.std.specs.Prelude.{◌≡◌, IfOk, IfErr, IfSome, MatchResult, true, false, map, string_bytes, option_map};
 ghost use Rattle.std.specs.Str.Parse.{digits_value};
 ghost use Rattle.clap.specs.Words.{app_of, first_of, found_of, rows_of};
-ghost use Rattle.mon_words.specs.Apps.{app_for, name_ids};
+ghost use Rattle.mon_words.specs.Apps.{app_for, required_ids};
 ghost use Rattle.mon_words.specs.Needs.{IsStrict, NeedsEach};
 ghost use Rattle.mon_words.specs.Options.{has_number, id_of, is_in_range};
 ghost use Rattle.mon_words.specs.Values.{Explains, IsBare, IsNamed, is_refused, is_taken, number_or, rest_of, rows_in};
 
-use crate::app::{central_app, check_app, child_app, place_app, total_app};
+use crate::app::{
+    central_app, check_app, child_app, drill_app, generate_app, measure_app, place_app, total_app,
+};
 use crate::numeral::number;
 use crate::{Command, Opt, UsageFault, WordsFault};
 use clap::ArgMatches;
@@ -42,14 +44,17 @@ pub(crate) fn matches_in<'a>(
 fn app_for<'a>(alloc: Global, command: Command) -> Result<clap::Command<'a>, AllocError>
     ensures app { IfOk result (λ app. app_of app ≡ app_for command) }
     ensures strict { IfOk result IsStrict }
-    ensures needs { IfOk result (NeedsEach (name_ids command)) }
+    ensures needs { IfOk result (NeedsEach (required_ids command)) }
 {
     match command {
         Command::Total => total_app(alloc),
         Command::Central => central_app(alloc),
+        Command::Measure => measure_app(alloc),
+        Command::Place => place_app(alloc),
         Command::Check => check_app(alloc),
         Command::Child => child_app(alloc),
-        Command::Place => place_app(alloc),
+        Command::Generate => generate_app(alloc),
+        Command::Drill => drill_app(alloc),
     }
 }
 

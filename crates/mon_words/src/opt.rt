@@ -4,7 +4,7 @@ ghost use Rattle.mon_words.specs.Options.{id_of, is_in_range, name_of};
 
 use crate::Command;
 
-/// An option whose value is a number, or one of two words.
+/// An option, or the word `PART`, whose value is a number or one of two words.
 #[derive(Clone, Copy, Debug, PartialEq, Eq)]
 pub enum Opt {
     /// `--seed`: 0 to 2^64 - 1, by default 1.
@@ -29,10 +29,16 @@ pub enum Opt {
     Window,
     /// `--restarts`: 0 to 16, by default 3.
     Restarts,
+    /// `--packets`: 0 to 1,048,576, by default 200,000.
+    Packets,
+    /// `--flows`: 1 to 65,536, by default 20,000.
+    Flows,
+    /// `PART`, the word that stands behind `generate`: `trace` or `topology`.
+    Part,
 }
 
 impl Opt {
-    /// The option as it is written, with its two dashes. Takes no memory.
+    /// The option as it is written, with its two dashes; `Part` has none. Takes no memory.
     pub fn name(self) -> &'static str
         ensures name { result.now ≡ name_of self }
     {
@@ -48,6 +54,9 @@ impl Opt {
             Opt::Nodes => "--nodes",
             Opt::Window => "--window",
             Opt::Restarts => "--restarts",
+            Opt::Packets => "--packets",
+            Opt::Flows => "--flows",
+            Opt::Part => "PART",
         }
     }
 
@@ -67,6 +76,9 @@ impl Opt {
             Opt::Nodes => "nodes",
             Opt::Window => "window",
             Opt::Restarts => "restarts",
+            Opt::Packets => "packets",
+            Opt::Flows => "flows",
+            Opt::Part => "PART",
         }
     }
 
@@ -86,6 +98,9 @@ impl Opt {
             Opt::Nodes => 1 <= number && number <= 4096,
             Opt::Window => 1 <= number && number <= 32,
             Opt::Restarts => number <= 16,
+            Opt::Packets => number <= 1_048_576,
+            Opt::Flows => 1 <= number && number <= 65_536,
+            Opt::Part => false,
         }
     }
 }

@@ -1,25 +1,26 @@
 //! The words of a call, read.
-ghost use Rattle.std.specs.Prelude.{◌≡◌, ◌≤◌, ◌++◌, Ok, IfOk, IfErr, OnOk, IfSome, MatchResult, true, false, length, map, string_bytes, codes};
+ghost use Rattle.std.specs.Prelude.{◌≡◌, ◌++◌, Ok, IfOk, OnOk, MatchResult, false, length, map, string_bytes, codes};
 ghost use Rattle.std.specs.Option.{option_map};
-ghost use Rattle.std.specs.Str.Parse.{digits_value};
 ghost use Rattle.clap.specs.Words.{first_of, found_of, rows_of};
-ghost use Rattle.mon_words.specs.Options.{id_of};
-ghost use Rattle.mon_words.specs.Values.{Explains, HasDefaults, IsInRange, IsNamed, is_refused, name_count, name_in, names_in, read_of, rest_of, starts_children, weighs_bytes, words_of};
+ghost use Rattle.mon_words.specs.Values.{Explains, HasDefaults, IsInRange, IsNamed, name_count, name_in, names_in, read_of, rest_of, starts_children, words_of};
 
-use crate::matches::{matches_in, number_given, number_or, text_of};
-use crate::{Command, Opt, UsageFault, WordsFault};
+use crate::groups::{made_values, search_values, sketch_values};
+use crate::matches::{matches_in, text_of};
+use crate::{Command, Part, UsageFault, WordsFault};
 use clap::ArgMatches;
 use std::alloc::{AllocError, Global};
 use std::marker::Model;
 
-/// A command with its names in order, the name of a topology where one is given, and the values of its options.
-/// An option that is not given, or that the command hasn't, has its default.
+/// A command with its names in order, what it makes, the name of a topology where one is given, and the values of its
+/// options. An option that is not given, or that the command hasn't, has its default.
 #[derive(Debug, Drop)]
 pub struct Words {
     pub command: Command,
-    /// One name, of a trace; for `check` two, of a topology and of a tree; for `child` none; for `place` one, of a
-    /// topology.
+    /// For `total` and `central` one name, of a trace; for `measure` two, of a topology and of a trace; for `place` one,
+    /// of a topology; for `check` two, of a topology and of a tree; for `child`, `generate` and `drill` none.
     pub names: Vec<String>,
+    /// `PART`, what `generate` makes; for each other command `Trace`.
+    pub part: Part,
     /// `--topology`, any text.
     pub topology: Option<String>,
     /// `--seed`.
@@ -30,7 +31,7 @@ pub struct Words {
     pub rows: u8,
     /// `--width`, the counters in a row: a power of two from 16 to 2,048.
     pub width: u16,
-    /// `--heap`, the keys that a level keeps, up to 1,024; 0 keeps all live keys.
+    /// `--heap`, the keys that a level keeps: 1 to 1,024, and for `central` 0 too, which keeps all live keys.
     pub heap: u16,
     /// `--weight`: whether a packet weighs its original length in bytes, and not 1.
     pub bytes: bool,
@@ -44,6 +45,10 @@ pub struct Words {
     pub window: u32,
     /// `--restarts`, how many attempts at a job may be bad before it is given up: 0 to 16.
     pub restarts: u32,
+    /// `--packets`, how many packets a made trace has: 0 to 1,048,576.
+    pub packets: u32,
+    /// `--flows`, from how many flows they are drawn: 1 to 65,536.
+    pub flows: u32,
 }
 
 impl Model for Words {
@@ -56,6 +61,7 @@ impl Model for Words {
     ghost view = { λ words. record {
       command = words.command;
       names = map string_bytes words.names.items;
+      part = words.part;
       topology = option_map string_bytes words.topology;
       seed = words.seed;
       levels = words.levels;
@@ -68,14 +74,16 @@ impl Model for Words {
       nodes = words.nodes;
       window = words.window;
       restarts = words.restarts;
+      packets = words.packets;
+      flows = words.flows;
     } };
 }
 
 /// Reads the words of a call, of which the first is the command: one of all, or where `all` is false one of those that
 /// start no children. They are refused exactly where there is none (`NoCommand`), the first is no such command
-/// (`UnknownCommand`), clap does not take the others (`Refused`), or the value of an option is none that it takes
-/// (`Value`, the first in the order of the table). A number is 1 to 20 digits, of which the first may be 0, within its
-/// range. Takes memory.
+/// (`UnknownCommand`), clap does not take the others (`Refused`), or the value of an option or of `PART` is none that
+/// it takes (`Value`, the first in the order of the table). A number is 1 to 20 digits, of which the first may be 0,
+/// within its range. Takes memory.
 pub fn read_words(alloc: Global, words: &[String], all: bool) -> Result<Words, WordsFault>
     ensures asked { MatchResult result
         (λ read. words_of all (map string_bytes words.now) ≡ Ok read)
@@ -113,9 +121,8 @@ fn read_matches(
     matches: &ArgMatches<'_>,
 ) -> Result<Words, WordsFault>
     requires named { IsNamed command (rows_of (found_of matches.now)) }
-    ensures asked { MatchResult result
-        (λ read. read_of command (rows_of (found_of matches.now)) ≡ Ok read)
-        (Explains (read_of command (rows_of (found_of matches.now)))) }
+    ensures asked { let rows = rows_of (found_of matches.now) in
+        MatchResult result (λ read. read_of command rows ≡ Ok read) (Explains (read_of command rows)) }
     ensures range { IfOk result IsInRange }
     ensures command { IfOk result (λ read. read.command ≡ command) }
 {
@@ -125,32 +132,27 @@ fn read_matches(
     let Ok(topology) = topology_in(alloc, matches) else {
         return Err(WordsFault::Memory);
     };
-    let seed = number_or(matches, command, Opt::Seed, 1)?;
-    let levels = number_or(matches, command, Opt::Levels, 12)?;
-    let rows = number_or(matches, command, Opt::Rows, 5)?;
-    let width = number_or(matches, command, Opt::Width, 1024)?;
-    let heap = number_or(matches, command, Opt::Heap, command.default_heap())?;
-    let bytes = weight_in(matches)?;
-    let epoch = epoch_in(matches, command)?;
-    let heavy = number_or(matches, command, Opt::Heavy, 10)?;
-    let nodes = number_or(matches, command, Opt::Nodes, 1024)?;
-    let window = number_or(matches, command, Opt::Window, 4)?;
-    let restarts = number_or(matches, command, Opt::Restarts, 3)?;
+    let sketch = sketch_values(matches, command)?;
+    let search = search_values(matches, command)?;
+    let made = made_values(matches, command)?;
     Ok(Words {
         command,
         names,
+        part: made.part,
         topology,
-        seed,
-        levels: levels as u8,
-        rows: rows as u8,
-        width: width as u16,
-        heap: heap as u16,
-        bytes,
-        epoch,
-        heavy: heavy as u32,
-        nodes: nodes as u32,
-        window: window as u32,
-        restarts: restarts as u32,
+        seed: sketch.seed,
+        levels: sketch.levels,
+        rows: sketch.rows,
+        width: sketch.width,
+        heap: sketch.heap,
+        bytes: sketch.bytes,
+        epoch: sketch.epoch,
+        heavy: sketch.heavy,
+        nodes: search.nodes,
+        window: search.window,
+        restarts: search.restarts,
+        packets: made.packets,
+        flows: made.flows,
     })
 }
 
@@ -168,12 +170,16 @@ fn names_in(
     let mut names = Vec::new(alloc);
     match command {
         Command::Total | Command::Central => add_name(alloc, matches, "TRACE", &mut names)?,
-        Command::Child => {}
+        Command::Measure => {
+            add_name(alloc, matches, "TOPOLOGY", &mut names)?;
+            add_name(alloc, matches, "TRACE", &mut names)?;
+        }
         Command::Check => {
             add_name(alloc, matches, "TOPOLOGY", &mut names)?;
             add_name(alloc, matches, "TREE", &mut names)?;
         }
         Command::Place => add_name(alloc, matches, "TOPOLOGY", &mut names)?,
+        Command::Child | Command::Generate | Command::Drill => {}
     }
     Ok(names)
 }
@@ -202,37 +208,5 @@ fn topology_in(alloc: Global, matches: &ArgMatches<'_>) -> Result<Option<String>
     match text_of(matches, "topology") {
         Some(topology) => Ok(Some(String::from_str(alloc, topology)?)),
         None => Ok(None),
-    }
-}
-
-// Whether packets weigh their bytes.
-fn weight_in(matches: &ArgMatches<'_>) -> Result<bool, WordsFault>
-    ensures taken { (command : Command) → MatchResult result
-        (λ _. is_refused command (rows_of (found_of matches.now)) Opt.Weight ≡ false)
-        (λ _. is_refused command (rows_of (found_of matches.now)) Opt.Weight ≡ true) }
-    ensures bytes { IfOk result (λ bytes. bytes ≡ weighs_bytes (rows_of (found_of matches.now))) }
-    ensures fault { IfErr result (λ fault. fault ≡ WordsFault.Usage (UsageFault.Value Opt.Weight)) }
-{
-    match text_of(matches, Opt::Weight.id()) {
-        None | Some("packets") => Ok(false),
-        Some("bytes") => Ok(true),
-        Some(_) => Err(WordsFault::Usage(UsageFault::Value(Opt::Weight))),
-    }
-}
-
-// The seconds of an epoch.
-fn epoch_in(matches: &ArgMatches<'_>, command: Command) -> Result<Option<u32>, WordsFault>
-    ensures taken { MatchResult result
-        (λ _. is_refused command (rows_of (found_of matches.now)) Opt.Epoch ≡ false)
-        (λ _. is_refused command (rows_of (found_of matches.now)) Opt.Epoch ≡ true) }
-    ensures seconds { IfOk result (λ epoch. epoch
-        ≡ option_map (digits_value 10) (first_of (id_of Opt.Epoch) (rows_of (found_of matches.now)))) }
-    ensures range { IfOk result (λ epoch. IfSome epoch (λ seconds. 1 ≤ seconds)) }
-    ensures fault { IfErr result (λ fault. fault ≡ WordsFault.Usage (UsageFault.Value Opt.Epoch)) }
-{
-    match number_given(matches, command, Opt::Epoch) {
-        Ok(Some(seconds)) => Ok(Some(seconds as u32)),
-        Ok(None) => Ok(None),
-        Err(fault) => Err(fault),
     }
 }

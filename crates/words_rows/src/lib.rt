@@ -3,10 +3,13 @@
 //! - `lines`: words from a line
 //! - `taken`, `refused`: what `read_words` of `mon_words` answers
 //! - `searches`: the words of `place`, and the options of a search
+//! - `measures`: the words of `measure`, `generate` and `drill`
 #![tactic(auto)]
 
 #[cfg(test)]
 mod lines;
+#[cfg(test)]
+mod measures;
 #[cfg(test)]
 mod refused;
 #[cfg(test)]

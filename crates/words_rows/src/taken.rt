@@ -105,6 +105,9 @@ fn names_options(rt: HostRuntime) {
         (Opt::Nodes, "--nodes"),
         (Opt::Window, "--window"),
         (Opt::Restarts, "--restarts"),
+        (Opt::Packets, "--packets"),
+        (Opt::Flows, "--flows"),
+        (Opt::Part, "PART"),
     ];
     for (option, name) in options {
         assert_eq!(rt; option.name(), name);

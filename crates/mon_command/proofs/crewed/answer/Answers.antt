@@ -10,5 +10,5 @@ returns-in-Err-Memory-clause-outcome g c =
     let crew = g.S.Spawner.state c.args.crew.now in
     let sink = g.K.Sink.state c.args.sink.now in
     crew_wanting (g.I.Inputs.picks c.args.inputs.now) (g.I.Inputs.picks c.args.inputs.now)
-    (asked_of true (map string_bytes c.args.words.now)) (crew_call_of inputs inputs crew crew sink sink) refl refl
+    (asked_of true (map string_bytes c.args.words.now)) (crew_call_of inputs inputs crew crew sink sink) refl refl refl
     (λ earlier stood. stood)

@@ -1,9 +1,9 @@
-use Rattle.std.proofs.Common.{◌≡◌, ◌<◌, [], length, slice_index_or, string_bytes, ◌∙◌, ap, arith, rules}
+use Rattle.std.proofs.Common.{◌≡◌, ◌<◌, [], length, slice_index_or, string_bytes, ◌∙◌, ap, arith, inr, refl, rules}
 use Rattle.std.proofs.lemmas.List.{length-map}
 use Rattle.mon_call.specs.CrewCall.{crew_call_of}
 use Rattle.mon_words.specs.Values.{Values, name_count}
-use Rattle.mon_words.specs.declared.command.Command.TheVariants.{Place}
-use Rattle.mon_command.proofs.Asking.{first_name, placed_in}
+use Rattle.mon_words.specs.declared.command.Command.TheVariants.{Drill, Place}
+use Rattle.mon_command.proofs.Asking.{drilled_in, name_at, placed_in}
 use Rattle.mon_command.proofs.crewed.perform_with.Goals as goal
 
 pub returns-in-Place-clause-outcome : goal.returns-in-Place-clause-outcome
@@ -23,6 +23,24 @@ returns-in-Place-clause-outcome g c =
     (g.K.Sink.state c.place.new.sink))
     c.place.result c.as_str-topology.result.now c.solving_of.result is
     (c.as_str-topology.ensures.value
-    ∙ first_name items c.index.result.now some c.index.ensures
+    ∙ name_at items 0 c.index.result.now some c.index.ensures
     ∙ ap (λ (v : Values). slice_index_or v.names 0 []) c.words.view_is)
     c.solving_of.ensures.value c.solving_of.ensures.limits c.place.ensures.answers c.place.ensures.picks
+
+pub returns-in-Drill-clause-outcome : goal.returns-in-Drill-clause-outcome
+returns-in-Drill-clause-outcome g c =
+    let is : c.args.words.now.command ≡ Drill = search rules in
+    let picks = g.I.Inputs.picks c.args.inputs.now in
+    let inputs = g.I.Inputs.state c.args.inputs.now in
+    drilled_in picks picks c.args.words.now
+    (crew_call_of inputs inputs (g.S.Spawner.state c.args.crew.now) (g.S.Spawner.state c.drill_of.new.crew)
+    (g.K.Sink.state c.args.sink.now) (g.K.Sink.state c.drill_of.new.sink)) c.drill_of.result is
+    (record {
+      limits = inr c.drill_of.ensures.limits;
+      drills = c.drill_of.ensures.drills;
+      none = λ earlier stood. stood;
+      stays = refl;
+    })
+
+pub returns-in-Drill-clause-keeps : goal.returns-in-Drill-clause-keeps
+returns-in-Drill-clause-keeps g c = c.drill_of.ensures.keeps (g.I.Inputs.state c.args.inputs.now)

@@ -1,4 +1,5 @@
 use Rattle.mon_call.specs.declared.status.Status.TheVariants as statuses
+use Rattle.mon_command.proofs.Measuring.{command_ends, command_spent, command_stale}
 use Rattle.mon_command.proofs.Telling.{crew_told, placed}
 use Rattle.mon_command.proofs.crewed.run.Goals as goal
 use Rattle.mon_place.proofs.Told.{place_ends, place_spent, place_stale}
@@ -37,3 +38,18 @@ pub returns-clause-stale : goal.returns-clause-stale
 returns-clause-stale g c = λ topology solving topo work part asked told full.
     place_stale _ solving _ topo work part _ told full
     (placed _ _ _ topology solving _ _ c.answer.ensures.outcome asked).answers
+
+pub returns-clause-measure_ends : goal.returns-clause-measure_ends
+returns-clause-measure_ends g c = λ asked m topo header members part taken same told within.
+    command_ends _ _ _ asked m _ topo header members part _ c.answer.ensures.outcome taken same told within
+
+pub returns-clause-measure_spent : goal.returns-clause-measure_spent
+returns-clause-measure_spent g c =
+    λ asked m topo header members part phase work entries job bad taken same told inside much.
+    command_spent _ _ _ asked m _ topo header members part _ c.answer.ensures.outcome taken same told phase work entries
+    job bad inside much
+
+pub returns-clause-measure_stale : goal.returns-clause-measure_stale
+returns-clause-measure_stale g c = λ asked m topo header members part phase work entries taken same told inside full.
+    command_stale _ _ _ asked m _ topo header members part _ c.answer.ensures.outcome taken same told phase work entries
+    inside full

@@ -17,10 +17,10 @@ returns-in-Ok-clause-answers g c = λ contents inputs later spells.
     let solved = subst (λ (p : Problem). HasFound p solving before after found.outcome
     × (found.verdict ≡ verdict_on p found.outcome)) c.problem.ensures.problem c.in-Ok.ensures.solved in
     reported contents solving
-    (crew_call_of inputs later before after (g.K.Sink.state c.args.sink.now) (g.K.Sink.state c.report.new.sink))
-    found.outcome (outcome_text topo solving.nodes found.outcome found.verdict) c.report.result
+    (crew_call_of inputs later before after (g.K.Sink.state c.args.sink.now) (g.K.Sink.state c.report_outcome.new.sink))
+    found.outcome (outcome_text topo solving.nodes found.outcome found.verdict) c.report_outcome.result
     (record {
       has = record { topo = topo; spells = spells; found = solved.0 };
       lines = ap (λ (v : Verdict). outcome_text topo solving.nodes found.outcome v) solved.1;
     })
-    c.report.ensures.reports
+    c.report_outcome.ensures.reports

@@ -1,4 +1,4 @@
-use Rattle.mon_words.proofs.Plain.{central_plain, check_plain, child_plain, epoch_plain, place_plain, total_plain}
+use Rattle.mon_words.proofs.Plain.{central_plain, check_plain, child_plain, drill_plain, epoch_plain, measure_plain, place_plain, topology_plain, total_plain, trace_plain}
 use Rattle.mon_words.proofs.laws.plain_words.Goals as goal
 
 pub returns-clause-total : goal.returns-clause-total
@@ -18,3 +18,15 @@ returns-clause-child c = child_plain
 
 pub returns-clause-place : goal.returns-clause-place
 returns-clause-place c = place_plain
+
+pub returns-clause-measure : goal.returns-clause-measure
+returns-clause-measure c = measure_plain
+
+pub returns-clause-drill : goal.returns-clause-drill
+returns-clause-drill c = drill_plain
+
+pub returns-clause-generate_trace : goal.returns-clause-generate_trace
+returns-clause-generate_trace c = trace_plain
+
+pub returns-clause-generate_topology : goal.returns-clause-generate_topology
+returns-clause-generate_topology c = topology_plain

@@ -1,0 +1,5 @@
+pub mod Answered
+pub mod Found
+pub mod Kept
+pub mod TwoPhases
+mod Weighed

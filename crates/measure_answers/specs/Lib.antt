@@ -1,0 +1,4 @@
+pub mod Measure
+pub mod Replayed
+pub mod Reported
+pub mod Text

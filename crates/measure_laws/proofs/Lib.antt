@@ -1,0 +1,3 @@
+mod Central
+mod Kept
+mod Texts

@@ -1,0 +1,4 @@
+mod Accepted
+mod Replays
+mod Searches
+mod Texts
