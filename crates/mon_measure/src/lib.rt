@@ -5,8 +5,8 @@
 //! - `searching`: the phase in which children search a placement
 //! - `replaying`: the phase in which children sketch the shares of the switches, and the report
 //!
-//! `specs/Measure.antt` says each status with its cause, `specs/Replayed.antt` what the children have given, and
-//! `specs/Text.antt` the text.
+//! `specs/Measuring.antt` says within which limits the numbers are. Each status with its cause, what the children have given,
+//! and the text stand in the crate `measure_answers`.
 #![tactic(auto)]
 
 mod command;
