@@ -6,3 +6,4 @@ pub mod Order
 pub mod Scores
 pub mod Halves
 pub mod Refusals
+pub mod Rewrites

@@ -1,10 +1,10 @@
 -- An offer that ranks behind all entries of a full list.
-use Rattle.std.proofs.Common.{◌≡◌, ℕ, ℤ, zero, suc, ◌+◌, ◌-◌, ◌<◌, ◌≤◌, true, false, List, [], ◌∷◌, ◌++◌, length, length-set, get_or, get_or-set_other, get_or-set_same, set, inl, inr, take, drop, refl, sym, ◌∙◌, ap, subst, arith}
-use Rattle.std.specs.Prelude.{Result, Err}
+use Rattle.std.proofs.Common.{◌≡◌, ℕ, ℤ, zero, suc, ◌+◌, ◌-◌, ◌<◌, ◌≤◌, true, false, List, [], ◌∷◌, length, get_or, inl, inr, refl, sym, ◌∙◌, ap, subst, arith}
+use Rattle.std.specs.Prelude.{Err}
 use Rattle.std.specs.List.{All, insert, remove}
-use Rattle.std.proofs.lemmas.Bool.{cases_eq, cases_lt}
+use Rattle.std.proofs.lemmas.Bool.{cases_lt}
 use Rattle.std.proofs.lemmas.List.Edits.{length-insert, get_or-insert_above, get_or-insert_at, get_or-insert_below}
-use Rattle.std.proofs.lemmas.List.Elements.{All-append, recursion_from_All}
+use Rattle.std.proofs.lemmas.List.Elements.{recursion_from_All}
 use Rattle.topk_heap.specs.Places.{IsPlace, RanksLast}
 use Rattle.topk_heap.specs.Ranking.{IsAscending, best, dropped_keys, entry, ranks_before, with_score}
 use Rattle.topk_heap.specs.declared.entry.Entry.{Entry}
@@ -73,25 +73,3 @@ module _ (entries : List Entry) (key : List ℕ) (score : ℤ) (size last place 
 
   pub refused_many : length (with_score entries key score) ≡ size + 1
   refused_many = ap (λ (l : List Entry). length l) (sym put) ∙ many.count
-
--- another entry than the last is written over, with one that the last doesn't rank before
-pub RanksLast-set : (entries : List Entry) (last place : ℕ) (new : Entry) → place < length entries → (last ≡ place → ⊥)
-    → ((d : Entry) → ranks_before (get_or entries last d) new ≡ false) → RanksLast entries last
-    → RanksLast (set entries place new) last
-RanksLast-set entries last place new within apart behind ranks = record {
-  within = omega (arith, length-set entries place new, ranks.within);
-  last = λ d k c inside.
-      let kept : get_or (set entries place new) last d ≡ get_or entries last d = get_or-set_other entries place last new
-      d apart in
-      elim (cases_eq k place) [
-        | inl same ↦
-            ap (λ (e : Entry). ranks_before e (get_or (set entries place new) k c)) kept
-            ∙ ap (λ (n : ℕ). ranks_before (get_or entries last d) (get_or (set entries place new) n c)) same
-            ∙ ap (λ (e : Entry). ranks_before (get_or entries last d) e) (get_or-set_same entries place new c within)
-            ∙ behind d
-        | inr other ↦
-            ap (λ (e : Entry). ranks_before e (get_or (set entries place new) k c)) kept
-            ∙ ap (λ (e : Entry). ranks_before (get_or entries last d) e) (get_or-set_other entries place k new c other)
-            ∙ ranks.last d k c (omega (arith, inside, length-set entries place new))
-      ];
-}

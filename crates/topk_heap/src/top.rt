@@ -8,7 +8,7 @@ ghost use Rattle.topk_heap.specs.Ranking.{best, holds, with_score};
 ghost use Rattle.topk_heap.specs.Answer.{answer_of};
 ghost use Rattle.topk_heap.specs.Table.{drops, empty_table, IsTable};
 
-use crate::edits::{drop_last_ranked, is_refused, keys_of, last_of_full, put};
+use crate::edits::{keys_of, offer_to};
 use crate::{Entry, Offer};
 use flow_keys::FlowKey;
 use mon_io::Memory;
@@ -70,12 +70,7 @@ impl TopK {
             → (result ≡ Offer.KeptDropping y) ↔ ((y ≢ key) × Contains (drops self.old key score) y) }
         ensures table { IsTable self.new }
     {
-        if is_refused(&self.entries, self.size, self.last, &key, score) {
-            return Offer::of(&key, Some(key));
-        }
-        put(&mut self.entries, key, score);
-        let dropped = drop_last_ranked(&mut self.entries, self.size);
-        self.last = last_of_full(&self.entries, self.size);
+        let dropped = offer_to(&mut self.entries, self.size, &mut self.last, key, score);
         Offer::of(&key, dropped)
     }
 
