@@ -1,5 +1,5 @@
 -- Sketches as grids: an item more, and sums and differences of their counters.
-use Rattle.std.proofs.Common.{◌≡◌, ℕ, ◌+◌, ◌*◌, ◌≤◌, ◌<◌, List, [], ◌∷◌, ◌++◌, length, get_or, ℤ, pos, ◌+ℤ◌, ◌-ℤ◌, sym}
+use Rattle.std.proofs.Common.{◌≡◌, ℕ, ◌+◌, ◌*◌, ◌≤◌, List, [], ◌∷◌, ◌++◌, length, get_or, ℤ, pos, ◌+ℤ◌, ◌-ℤ◌, sym}
 use Rattle.std.proofs.Common.{◌∙◌, ap, arith, ◌^◌, ◌-◌}
 use Rattle.std.proofs.lemmas.Int.{ints}
 use Rattle.std.proofs.lemmas.List.{ext_get_or}
@@ -99,7 +99,7 @@ module _ (rows width m n : ℕ) (xs ys : List ℤ) (shaped : IsShaped rows width
   }
 
 -- a sketch stays in its shape at an item, where its counters are up to 2^61
-pub IsShaped-next_grid : (seed level : ℕ) (item : Item) (grid : Grid) → item.weight < 2 ^ 32
+pub IsShaped-next_grid : (seed level : ℕ) (item : Item) (grid : Grid) → item.weight ≤ 2 ^ 44
     → IsShaped grid.rows grid.width grid.counters → AllUpTo (2 ^ 61) grid.counters
     → IsShaped grid.rows grid.width (next_grid seed level item grid).counters
 IsShaped-next_grid seed level item grid small shaped low =

@@ -105,6 +105,36 @@ impl Sketch {
             (row_estimates family.now level self.new.rows self.new.width self.new.counters key.now) result }
         ensures result_bound { (n : ℕ) → AllUpTo n self.new.counters → unsigned_abs result ≤ n }
     {
+        self.update_and_estimate_by(family, level, key, u64::from(weight))
+    }
+
+    /// `update_and_estimate` by a weight that need not fit 32 bits, and is at most 2^44.
+    pub fn update_and_estimate_by(
+        &mut self,
+        family: &Family,
+        level: u8,
+        key: &FlowKey,
+        weight: u64,
+    ) -> i64
+        requires level { level ≤ 16 }
+        requires weight { weight ≤ 2 ^ 44 }
+        requires small { AllUpTo (2 ^ 61) self.old.counters }
+        ensures next { self.new ≡ record self.old {
+          counters = plus self.old.counters
+              (counters_of family.now level self.old.rows self.old.width
+              (record { key = key.now; weight = weight } ∷ []));
+        } }
+        ensures list { (items : List Item)
+            → self.old ≡ grid_of family.now level self.old.rows self.old.width items
+            → self.new ≡ grid_of family.now level self.old.rows self.old.width
+            (items ++ record { key = key.now; weight = weight } ∷ []) }
+        ensures bound { (n : ℕ) → AllUpTo n self.old.counters → AllUpTo (n + weight) self.new.counters }
+        ensures value { result
+            ≡ estimate family.now level self.new.rows self.new.width self.new.counters key.now }
+        ensures middle { IsMiddle
+            (row_estimates family.now level self.new.rows self.new.width self.new.counters key.now) result }
+        ensures result_bound { (n : ℕ) → AllUpTo n self.new.counters → unsigned_abs result ≤ n }
+    {
         update_and_estimate_in(
             &mut self.counters,
             self.rows,

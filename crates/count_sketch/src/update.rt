@@ -29,7 +29,7 @@ pub(crate) fn update_in(
         (counters_of family.now level rows width (record { key = key.now; weight = weight } ∷ [])) }
 {
     for row in 0..rows {
-        update_row(counters, row, width, family, level, key, weight);
+        update_row(counters, row, width, family, level, key, u64::from(weight));
     }
 }
 
@@ -42,9 +42,10 @@ pub(crate) fn update_row(
     family: &Family,
     level: u8,
     key: &FlowKey,
-    weight: u32,
+    weight: u64,
 ) -> i64
     requires level { level ≤ 16 }
+    requires weight { weight ≤ 2 ^ 44 }
     requires row { row ≤ 6 }
     requires width { IsTrue (is_width width) }
     requires shape { row * width + width ≤ length counters.old }
@@ -56,7 +57,7 @@ pub(crate) fn update_row(
 {
     let at = place_of(family, level, row, width, key);
     let sign = sign_of(family, level, row, key);
-    add_at(counters, at, signed(sign, i64::from(weight)));
+    add_at(counters, at, signed(sign, weight as i64));
     signed(sign, counters[at])
 }
 
@@ -98,7 +99,7 @@ pub(crate) fn signed(sign: i64, number: i64) -> i64
 fn add_at(numbers: &mut [i64], at: usize, share: i64)
     requires at { at < length numbers.old }
     requires number { unsigned_abs (slice_index_or numbers.old at (pos 0)) ≤ 2 ^ 61 }
-    requires share { unsigned_abs share < 2 ^ 32 }
+    requires share { unsigned_abs share ≤ 2 ^ 44 }
     ensures value { numbers.new
         ≡ slice_set numbers.old at (slice_index_or numbers.old at (pos 0) +ℤ share) }
     ensures number { unsigned_abs (slice_index_or numbers.new at (pos 0)) < 2 ^ 63 }

@@ -17,9 +17,10 @@ pub(crate) fn update_and_estimate_in(
     family: &Family,
     level: u8,
     key: &FlowKey,
-    weight: u32,
+    weight: u64,
 ) -> i64
     requires level { level ≤ 16 }
+    requires weight { weight ≤ 2 ^ 44 }
     requires rows { IsTrue (is_rows rows) }
     requires width { IsTrue (is_width width) }
     requires shape { length counters.old ≡ rows * width }
@@ -45,9 +46,10 @@ fn update_and_fill(
     family: &Family,
     level: u8,
     key: &FlowKey,
-    weight: u32,
+    weight: u64,
 )
     requires level { level ≤ 16 }
+    requires weight { weight ≤ 2 ^ 44 }
     requires rows { IsTrue (is_rows rows) }
     requires width { IsTrue (is_width width) }
     requires shape { length counters.old ≡ rows * width }

@@ -3,6 +3,7 @@
 //! - `keys`: the keys of the rows
 //! - `heap`: what offers answer, and which keys a table holds
 //! - `levels`: what levels keep, and which keys are noted, after a few packets and after many
+//! - `tally`: how many items the keys of a tally have, and what they weigh
 #![tactic(auto)]
 
 #[cfg(test)]
@@ -11,3 +12,5 @@ mod heap;
 mod keys;
 #[cfg(test)]
 mod levels;
+#[cfg(test)]
+mod tally;

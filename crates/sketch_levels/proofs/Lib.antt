@@ -5,4 +5,6 @@ pub mod Layers
 pub mod Live
 pub mod Members
 pub mod Noting
+pub mod Standing
 pub mod Taking
+pub mod Tallies

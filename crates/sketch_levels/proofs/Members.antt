@@ -38,7 +38,7 @@ any-live_keys level q notes = any-distinct q _ ∙ any-live level q notes
 any_weaker : {X : Type 0} (P Q : X → Type 0) (xs : List X) → ((x : X) → P x → Q x) → Any P xs → Any Q xs
 any_weaker P Q xs f any = (any.0, any.1, any.2, any.3, f any.1 any.4)
 
-own_key : (key : List ℕ) → same key key ≡ true
+pub own_key : (key : List ℕ) → same key key ≡ true
 own_key key = ap is_eq (tied_itself nat_list_cmp_total key)
 
 -- the keys of a level are those that a note names which is live there

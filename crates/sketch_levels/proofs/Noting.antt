@@ -27,7 +27,7 @@ abbrev Entries : Type 0
 Entries = List (List ℕ × ℕ)
 
 -- the order of keys
-abbrev cmp : List ℕ → List ℕ → Ordering
+abbrev pub cmp : List ℕ → List ℕ → Ordering
 cmp = slice_cmp nat_cmp
 
 -- the keys of a list whose first entry is live at the level, and isn't
@@ -67,7 +67,7 @@ lookup-above : (entries : Entries) (key : List ℕ) → AllByRecursion (λ y. cm
 lookup-above [] key above = refl
 lookup-above (e ∷ rest) key above = rw above.0 (lookup-above rest key above.1)
 
-all_less : (key other : List ℕ) (keys : List (List ℕ)) → cmp key other ≡ Less
+pub all_less : (key other : List ℕ) (keys : List (List ℕ)) → cmp key other ≡ Less
     → AllByRecursion (λ y. cmp other y ≡ Less) keys → AllByRecursion (λ y. cmp key y ≡ Less) keys
 all_less key other keys less above =
     all_weaker _ _ (λ (y : List ℕ) h. nat_list_cmp_total.trans key other y less h) keys above

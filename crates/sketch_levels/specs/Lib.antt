@@ -2,3 +2,5 @@ pub mod Items
 pub mod Kept
 pub mod Levels
 pub mod Noted
+pub mod Stands
+pub mod Totals

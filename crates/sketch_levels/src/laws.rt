@@ -1,9 +1,10 @@
 //! What a level keeps of a list of items.
-ghost use Rattle.std.specs.Prelude.{◌≡◌, ℕ, true, false, List, [], ◌∷◌, ◌++◌, All};
+ghost use Rattle.std.specs.Prelude.{◌≡◌, ℕ, true, false, List, [], ◌∷◌, ◌++◌, All, length};
 ghost use Rattle.hash_family.specs.Hash.{is_live};
-ghost use Rattle.count_sketch.specs.Counters.{Item};
+ghost use Rattle.count_sketch.specs.Counters.{Item, counters_of};
 ghost use Rattle.topk_heap.specs.Ranking.{best, with_score};
-ghost use Rattle.sketch_levels.specs.Items.{distinct_keys, live_items};
+ghost use Rattle.sketch_levels.specs.Stands.{StandFor, ones};
+ghost use Rattle.sketch_levels.specs.Items.{distinct_keys, live_items, weight_of};
 ghost use Rattle.hash_family.specs.Setting.{Setting};
 ghost use Rattle.sketch_levels.specs.Kept.{HasLastScore, is_dropped, kept, kept_keys, score};
 
@@ -29,4 +30,18 @@ pub fn kept_keys_law()
         → is_dropped setting (live_items setting.seed level items) ≡ false
         → kept_keys setting level (live_items setting.seed level items)
         ≡ distinct_keys (live_items setting.seed level items) }
+{}
+
+/// Items that stand for others have their counters, their weight and their distinct keys, at each level. Items that
+/// stand for those of weight 1 weigh as much as there are. No code.
+pub fn standing_law()
+    ensures counters { (entries items : List Item) (seed level rows width : ℕ) → StandFor entries items
+        → counters_of seed level rows width (live_items seed level entries)
+        ≡ counters_of seed level rows width (live_items seed level items) }
+    ensures weight { (entries items : List Item) (seed level : ℕ) → StandFor entries items
+        → weight_of (live_items seed level entries) ≡ weight_of (live_items seed level items) }
+    ensures keys { (entries items : List Item) (seed level : ℕ) → StandFor entries items
+        → distinct_keys (live_items seed level entries) ≡ distinct_keys (live_items seed level items) }
+    ensures number { (entries items : List Item) (seed level : ℕ) → StandFor entries (ones items)
+        → weight_of (live_items seed level entries) ≡ length (live_items seed level items) }
 {}

@@ -53,8 +53,9 @@ impl Level {
 
     /// Adds the weight to the key's counters, and then offers the key with its new estimate to the heap.
     #[inline]
-    pub(crate) fn feed(&mut self, family: &Family, number: u8, key: &FlowKey, weight: u32)
+    pub(crate) fn feed(&mut self, family: &Family, number: u8, key: &FlowKey, weight: u64)
         requires number { number ≤ 16 }
+        requires light { weight ≤ 2 ^ 44 }
         requires small { AllUpTo (2 ^ 44) self.old.sketch.counters }
         ensures list { (setting : Setting) (items : List Item) → setting.seed ≡ family.now
             → self.old ≡ layer_of setting number items
@@ -62,7 +63,9 @@ impl Level {
         ensures shape { (setting : Setting) (n : ℕ)
             → IsLayer setting n self.old → IsLayer setting (n + weight) self.new }
     {
-        let score = self.sketch.update_and_estimate(family, number, key, weight);
+        let score = self
+            .sketch
+            .update_and_estimate_by(family, number, key, weight);
         let drops = offer(&mut self.heap, key, score);
         self.dropped = self.dropped || drops;
     }

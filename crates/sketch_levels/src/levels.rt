@@ -67,8 +67,19 @@ impl Levels {
         ensures setting { self.new.setting ≡ self.old.setting }
         ensures weight { self.new.weight ≡ self.old.weight + weight }
     {
+        self.feed_by(key, u64::from(weight));
+    }
+
+    /// `feed` by a weight that need not fit 32 bits.
+    pub fn feed_by(&mut self, key: &FlowKey, weight: u64)
+        requires light { self.old.weight + weight ≤ 2 ^ 44 }
+        ensures list { (items : List Item)
+            → Holds self.old items → Holds self.new (items ++ record { key = key.now; weight = weight } ∷ []) }
+        ensures setting { self.new.setting ≡ self.old.setting }
+        ensures weight { self.new.weight ≡ self.old.weight + weight }
+    {
         feed_levels(&mut self.levels, &self.family, key, weight);
-        self.weight += u64::from(weight);
+        self.weight += weight;
     }
 
     /// The estimate of a key's weight at a level, from the counters of that level.
@@ -166,8 +177,9 @@ fn empty_levels(alloc: Global, params: &Params) -> Result<Vec<Level>, Memory>
 }
 
 // Feeds the levels from 0 on while the key is live there.
-fn feed_levels(levels: &mut [Level], family: &Family, key: &FlowKey, weight: u32)
+fn feed_levels(levels: &mut [Level], family: &Family, key: &FlowKey, weight: u64)
     requires number { length levels.old ≤ 17 }
+    requires light { weight ≤ 2 ^ 44 }
     requires small { All (λ layer. AllUpTo (2 ^ 44) layer.sketch.counters) levels.old }
     ensures each { (level : ℕ) (d : Layer) → level < length levels.old
         → Takes family.now level (record { key = key.now; weight = weight })

@@ -4,7 +4,7 @@ use Rattle.count_sketch.proofs.Steps.{AddedTo, added_row, added_all}
 use Rattle.count_sketch.proofs.update.update_in.Goals as goal
 
 pub loop-row-preserved : goal.loop-row-preserved
-loop-row-preserved c = added_row c.loop-row.invariant c.update_row.ensures.written
+loop-row-preserved c = added_row c.loop-row.invariant (rw c.from.ensures at c.update_row.ensures.written)
 
 pub returns : goal.returns
 returns c =

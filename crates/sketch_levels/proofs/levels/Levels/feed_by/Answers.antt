@@ -5,7 +5,7 @@ use Rattle.count_sketch.specs.Counters.{Item}
 use Rattle.hash_family.specs.Setting.{setting_of}
 use Rattle.sketch_levels.specs.Levels.{Holds, View}
 use Rattle.sketch_levels.proofs.Holding.{Holds-fed, IsFed, IsView-fed}
-use Rattle.sketch_levels.proofs.levels.Levels.feed.Goals as goal
+use Rattle.sketch_levels.proofs.levels.Levels.feed_by.Goals as goal
 
 -- the item, and the levels before and after it
 abbrev item : goal.After-self-2-1 → Item
@@ -22,7 +22,7 @@ before c = record {
 abbrev after : goal.After-self-2-1 → View
 after c = record {
   setting = setting_of c.self.inside.params;
-  weight = c.self.inside.weight + c.from.result;
+  weight = c.self.inside.weight + c.args.weight;
   levels =
       (with_items c.self.inside.levels c.feed_levels.new.levels).items;
 }
@@ -34,7 +34,7 @@ levels_are c = with_items_is c.self.inside.levels c.feed_levels.new.levels (sear
 fed : (c : goal.After-self-2-1) → IsFed (item c) (before c) (after c)
 fed c = record {
   setting = refl;
-  weight = ap (λ n. c.self.inside.weight + n) c.from.ensures;
+  weight = refl;
   number = ap length (levels_are c) ∙ omega (arith, ap length c.deref_mut.ensures.value);
   each = λ level d within. rw (levels_are c, ← c.self.invariant.0)
       ((rw c.deref_mut.ensures.value at c.feed_levels.ensures).each level d within);
