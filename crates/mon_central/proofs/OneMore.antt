@@ -13,7 +13,7 @@ use Rattle.mon_central.specs.Central.{central_text, epochs_lines, lines_of}
 use Rattle.mon_central.specs.Sketched.{Divides, Splits}
 use Rattle.mon_central.specs.declared.epochs.Epochs.{Epochs}
 use Rattle.mon_call.specs.declared.setting.Setting.{Setting}
-use Rattle.mon_central.specs.declared.sketching.Sketched.{Sketched}
+use Rattle.mon_central.specs.declared.gathering.Gathered.{Gathered}
 
 -- one record more: its counts, as many sketches as epochs, and its packet in one of them
 pub divides_more : {setting : Setting} {topology : Option Topo} {old new : Epochs} {header : Header}
@@ -36,14 +36,14 @@ divides_more {setting} {topology} {old} {new} {header} {members} found member di
   splits = subst (Splits setting new.sketches.items) (sym added.1) splits;
 }
 
-pub splits_none : (setting : Setting) (sketches : List Sketched) (routed : List Routed) (found : Option Routed)
+pub splits_none : (setting : Setting) (sketches : List Gathered) (routed : List Routed) (found : Option Routed)
     → found ≡ None
     → Splits setting sketches routed → Splits setting sketches (routed ++ option_to_list found)
 splits_none setting sketches routed found none splits =
     subst (Splits setting sketches) (sym
     (ap (λ (f : Option Routed). routed ++ option_to_list f) none ∙ append-nil routed)) splits
 
-pub splits_one : (setting : Setting) (sketches : List Sketched) (routed : List Routed) (found : Option Routed)
+pub splits_one : (setting : Setting) (sketches : List Gathered) (routed : List Routed) (found : Option Routed)
     (packet : Routed) → found ≡ Some packet
     → Splits setting sketches (routed ++ packet ∷ []) → Splits setting sketches (routed ++ option_to_list found)
 splits_one setting sketches routed found packet one splits =
@@ -65,16 +65,16 @@ central_text_is setting topology header members packets keyed routed number line
 
 -- nothing yet
 pub divides_none : (setting : Setting) (topology : Option Topo) (header : Header) (counts : TraceCounts)
-    (before : List Sketched) (sketches : Vec Sketched Global)
+    (before : List Gathered) (sketches : Vec Gathered Global)
     → AreCounts setting.division topology counts header [] → before ≡ [] → length sketches.items ≡ max (length before) 1
     → ((routed : List Routed) → Splits setting before routed → Splits setting sketches.items routed)
     → Divides setting topology (record { counts = counts; sketches = sketches }) header []
 unfolding number_of_epochs routed_of items_in
 divides_none setting topology header counts before sketches are empty number splits = record {
   counts_are = are;
-  number_is = number ∙ ap (λ (l : List Sketched). max (length l) 1) empty;
+  number_is = number ∙ ap (λ (l : List Gathered). max (length l) 1) empty;
   splits = splits [] (record {
-    each = λ epoch d within. absurd (omega (arith, within, ap (λ (l : List Sketched). length l) empty));
+    each = λ epoch d within. absurd (omega (arith, within, ap (λ (l : List Gathered). length l) empty));
     none = λ epoch past. refl;
   });
 }

@@ -1,28 +1,33 @@
 -- What has been sketched, packet by packet.
-use Rattle.std.proofs.Common.{◌≡◌, ℕ, ◌+◌, ◌<◌, ◌≤◌, ◌==◌, ◌^◌, Bool, true, false, cond, not, ◌||◌, ◌&&◌, is_some, Vec, replicate, List, [], ◌∷◌, ◌++◌, length, slice_index, slice_index_or, map, Option, Some, None, IsTrue, refl, sym, ◌∙◌, ap, subst, arith, length-append}
+use Rattle.std.proofs.Common.{◌≡◌, ℕ, ◌+◌, ◌<◌, ◌≤◌, ◌==◌, ◌^◌, Bool, true, false, cond, not, ◌||◌, ◌&&◌, is_some, Vec, replicate, List, [], ◌∷◌, ◌++◌, length, take, get_or, zero, suc, slice_index, slice_index_or, map, Option, Some, None, IsTrue, true≢false, inl, inr, refl, sym, ◌∙◌, ap, subst, arith}
 use Rattle.std.specs.List.{list_any, range_with_len}
-use Rattle.std.proofs.lemmas.List.{get_or_default, with_items_is, get_or-replicate, length-replicate}
+use Rattle.std.proofs.lemmas.List.{get_or_default, with_items_is, get_or-replicate, length-replicate, map-append}
 use Rattle.std.specs.Vec.{with_items}
 use Rattle.std.specs.declared.alloc.Global.{Global}
+use Rattle.std.proofs.lemmas.Bool.{cases_Bool}
 use Rattle.std.proofs.lemmas.Bool.Decides.{nat_tests}
 use Rattle.std.proofs.lemmas.List.Folds.{list_any-append}
 use Rattle.std.proofs.lemmas.List.FromFn.{map-range_with_len_more}
-use Rattle.std.proofs.lemmas.List.Sums.{sum_by_push, length-filter, count_by-le-length}
+use Rattle.std.proofs.lemmas.List.Sums.{sum_by-cons, sum_by_push, length-filter, count_by-le-length}
 use Rattle.hash_family.specs.Hash.{is_live}
 use Rattle.count_sketch.specs.Counters.{Item, counters_of}
 use Rattle.sketch_levels.specs.Items.{live_items, weight_of, distinct_keys}
 use Rattle.sketch_levels.specs.Levels.{Holds}
 use Rattle.sketch_levels.specs.Noted.{Noted, HoldsNotes, notes_of}
+use Rattle.sketch_levels.specs.Stands.{KeyTotal, ones, packets_of, weights_of}
 use Rattle.hash_family.specs.Setting as sketch
 use Rattle.sketch_levels.specs.Kept as levels
 use Rattle.sketch_levels.proofs.Live.{live_items-live, live_items-dead, live_items-none}
+use Rattle.sketch_levels.proofs.Standing.{StandFor-own, number_of-all, weight_of-all}
 use Rattle.mon_central.specs.Central.{levels_setting, kept_keys, nonzero, level_count, drops}
 use Rattle.flow_keys.specs.declared.routed.Routed.{Routed}
 use Rattle.routed_trace.specs.Routed.{item_of}
 use Rattle.routed_trace.proofs.Weights.{sum_by-filter-le}
-use Rattle.mon_central.specs.Live.{CountsLive, AreLive, AreWeighed}
+use Rattle.mon_central.specs.Live.{CountsLive, AreWeighed}
 use Rattle.mon_call.specs.Setting.{is_setting}
-use Rattle.mon_central.specs.Sketched.{Sketches, HasRoom, IsNoted, any_mark}
+use Rattle.mon_central.specs.Sketched.{Gathers, HasPlace, HasRoom, IsFed, IsNoted, Sketches, any_mark}
+use Rattle.mon_central.specs.declared.gathering.Gathered.{Gathered}
+use Rattle.mon_central.specs.declared.gathering.Gathered.TheVariants.{Tallied, Fed}
 use Rattle.mon_call.specs.declared.setting.Setting.{Setting}
 use Rattle.mon_central.specs.declared.sketching.Sketched.{Sketched}
 use Rattle.change_report.specs.declared.level_count.LevelCount.{LevelCount}
@@ -33,25 +38,6 @@ unfolding live_items
 length-live_items-le seed level items =
     let live = λ (item : Item). is_live seed level item.key in
     omega (arith, length-filter live items, count_by-le-length live items)
-
--- one item more at a level, by whether it is live there
-length-live_items-push : (seed level : ℕ) (items : List Item) (item : Item) (b : Bool) → is_live seed level item.key ≡ b
-    → length (live_items seed level (items ++ item ∷ [])) ≡ length (live_items seed level items) + cond {A = ℕ} b 1 0
-length-live_items-push seed level items item true live = ap (λ (xs : List Item). length xs)
-    (live_items-live seed level items item live) ∙ length-append (live_items seed level items) (item ∷ [])
-length-live_items-push seed level items item false dead = ap (λ (xs : List Item). length xs)
-    (live_items-dead seed level items item dead) ∙ omega arith
-
--- the counts of the levels, one packet on
-pub live_more : (seed : ℕ) (items : List Item) (item : Item) (old new : List ℕ) → AreLive seed items old
-    → CountsLive seed item.key 1 old new → AreLive seed (items ++ item ∷ []) new
-live_more seed items item old new are counts = record {
-  each = λ level within.
-      let inside : level < length old = omega (arith, within, counts.size) in
-      counts.each level inside
-      ∙ ap (λ (n : ℕ). n + cond {A = ℕ} (is_live seed level item.key) 1 0) (are.each level inside)
-      ∙ sym (length-live_items-push seed level items item (is_live seed level item.key) refl);
-}
 
 -- the weight of one item more at a level, by whether it is live there
 weight_of-push : (seed level : ℕ) (items : List Item) (item : Item) (b : Bool) → is_live seed level item.key ≡ b
@@ -83,28 +69,40 @@ live_light seed level items = sum_by-filter-le (λ (x : Item). x.weight) (λ ite
 levels_le : (setting : Setting) → IsTrue (is_setting setting) → setting.levels ≤ 16
 levels_le setting range = grind (arith, nat_tests)
 
--- room for one packet more
-pub has_room : (setting : Setting) (sketched : Sketched) (items : List Item) (weight : ℕ)
-    → Sketches setting sketched items → IsTrue (is_setting setting)
-    → length items < 1048576 → weight_of items + weight ≤ 2 ^ 44 → HasRoom sketched weight
-has_room setting sketched items weight sketches range few light = record {
-  number = omega (arith, sketches.number_is, few);
-  light = omega (arith, sketches.holds.weight, light);
-  levels = omega (arith, sketches.number, levels_le setting range);
-  same = sketches.size ∙ sym sketches.number;
+-- room for so many packets more
+pub has_room : (setting : Setting) (sketched : Sketched) (fed counted : List Item) (packets weight : ℕ)
+    → IsFed setting sketched fed counted → IsTrue (is_setting setting)
+    → weight_of counted + packets ≤ 1048576 → weight_of fed + weight ≤ 2 ^ 44 → HasRoom sketched packets weight
+has_room setting sketched fed counted packets weight feeds range few light = record {
+  number = omega (arith, feeds.number_is, few);
+  light = omega (arith, feeds.holds.weight, light);
+  levels = omega (arith, feeds.number, levels_le setting range);
+  same = feeds.size ∙ sym feeds.number;
   live = λ level d inside.
-      let count : slice_index sketched.live.items level ≡ length
-      (live_items setting.seed level items) = sketches.live.each level inside in
+      let count : slice_index sketched.live.items level ≡ weight_of
+      (live_items setting.seed level counted) = feeds.live.each level inside in
       let same : slice_index_or sketched.live.items level d ≡ slice_index sketched.live.items level = get_or_default
       sketched.live.items level d 0 inside in
-      omega (arith, count, same, length-live_items-le setting.seed level items, few);
+      omega (arith, count, same, live_light setting.seed level counted, few);
   weights = λ level d inside.
       let sum : slice_index sketched.weights.items level ≡ weight_of
-      (live_items setting.seed level items) = sketches.weights.each level inside in
+      (live_items setting.seed level fed) = feeds.weights.each level inside in
       let same : slice_index_or sketched.weights.items level d ≡ slice_index sketched.weights.items
       level = get_or_default sketched.weights.items level d 0 inside in
-      omega (arith, sum, same, live_light setting.seed level items, light);
+      omega (arith, sum, same, live_light setting.seed level fed, light);
 }
+
+-- a place for one packet more
+pub has_place : (setting : Setting) (gathered : Gathered) (items : List Item) (weight : ℕ)
+    → Gathers setting gathered items → IsTrue (is_setting setting)
+    → length items < 1048576 → weight_of items + weight ≤ 2 ^ 44 → HasPlace gathered weight
+has_place setting (Tallied tally) items weight gathers range few light = (
+  omega (arith, number_of-all (packets_of tally) items gathers.1.packets, few),
+  omega (arith, weight_of-all (weights_of tally) items gathers.1.weights, light),
+)
+has_place setting (Fed sketched) items weight gathers range few light =
+    has_room setting sketched items (ones items) 1 weight gathers.1 range
+    (omega (arith, number_of-all (ones items) items (StandFor-own (ones items)), few)) light
 
 pub or_false : (b : Bool) → (b || false) ≡ b
 or_false true = refl
@@ -125,29 +123,80 @@ any_mark-more setting items number =
     ∙ list_any-append (λ (b : Bool). b) (map mark (range_with_len 0 number)) (mark number ∷ [])
     ∙ ap (λ (b : Bool). any_mark setting items number || b) (or_false (mark number))
 
--- one more packet
-pub sketches_more : {setting : Setting} {old : Sketched} {items : List Item} (new : Sketched) (packet : Routed)
-    → Sketches setting old items
+-- some packets more
+pub fed_more : {setting : Setting} {old : Sketched} {fed counted : List Item} (new : Sketched) (key : List ℕ)
+    (packets weight : ℕ) → IsFed setting old fed counted
     → new.family ≡ old.family → new.levels.setting ≡ old.levels.setting
-    → (Holds old.levels items → Holds new.levels (items ++ item_of packet ∷ []))
-    → IsNoted setting (items ++ item_of packet ∷ []) new.all
-    → CountsLive old.family packet.key 1 old.live.items new.live.items
-    → CountsLive old.family packet.key packet.weight old.weights.items new.weights.items → new.number ≡ old.number + 1
-    → Sketches setting new (items ++ item_of packet ∷ [])
-sketches_more {setting} {old} {items} new packet sketches family shape holds noted counts weighs more = record {
-  family = family ∙ sketches.family;
-  shape = shape ∙ sketches.shape;
-  holds = holds sketches.holds;
-  noted = noted;
-  number = counts.size ∙ sketches.number;
-  live = live_more setting.seed items (item_of packet) old.live.items new.live.items sketches.live
-      (subst (λ (seed : ℕ). CountsLive seed packet.key 1 old.live.items new.live.items) sketches.family counts);
-  size = weighs.size ∙ sketches.size;
-  weights = weights_more setting.seed items (item_of packet) old.weights.items new.weights.items sketches.weights
-      (subst (λ (seed : ℕ). CountsLive seed packet.key packet.weight old.weights.items new.weights.items)
-      sketches.family weighs);
-  number_is = omega (arith, more, sketches.number_is, length-append items (item_of packet ∷ []));
+    → (Holds old.levels fed → Holds new.levels (fed ++ record { key = key; weight = weight } ∷ []))
+    → IsNoted setting (fed ++ record { key = key; weight = weight } ∷ []) new.all
+    → CountsLive old.family key packets old.live.items new.live.items
+    → CountsLive old.family key weight old.weights.items new.weights.items → new.number ≡ old.number + packets
+    → IsFed setting new (fed ++ record { key = key; weight = weight } ∷ [])
+    (counted ++ record { key = key; weight = packets } ∷ [])
+fed_more {setting} {old} {fed} {counted} new key packets weight feeds family shape holds noted counts weighs more =
+    let item : Item = record { key = key; weight = weight } in
+    let number : Item = record { key = key; weight = packets } in record {
+      family = family ∙ feeds.family;
+      shape = shape ∙ feeds.shape;
+      holds = holds feeds.holds;
+      noted = noted;
+      number = counts.size ∙ feeds.number;
+      live = weights_more setting.seed counted number old.live.items new.live.items feeds.live
+          (subst (λ (seed : ℕ). CountsLive seed key packets old.live.items new.live.items) feeds.family counts);
+      size = weighs.size ∙ feeds.size;
+      weights = weights_more setting.seed fed item old.weights.items new.weights.items feeds.weights
+          (subst (λ (seed : ℕ). CountsLive seed key weight old.weights.items new.weights.items) feeds.family weighs);
+      number_is = omega (arith, more, feeds.number_is, sum_by_push (λ (x : Item). x.weight) counted number);
+    }
+
+-- what was fed packet by packet, with one more
+pub fed_one : (setting : Setting) (new : Sketched) (packet : Routed) (items : List Item) (weight : ℕ)
+    → weight ≡ packet.weight
+    → IsFed setting new (items ++ record { key = packet.key; weight = weight } ∷ [])
+    (ones items ++ record { key = packet.key; weight = 1 } ∷ [])
+    → IsFed setting new (items ++ item_of packet ∷ []) (ones (items ++ item_of packet ∷ []))
+fed_one setting new packet items weight is feeds =
+    let one : Item → Item = λ item. record { key = item.key; weight = 1 } in
+    rw (map-append one items (item_of packet ∷ [])) (rw is at feeds)
+
+-- items that were fed themselves
+pub sketches_own : (setting : Setting) (sketched : Sketched) (items : List Item)
+    → Gathers setting (Fed sketched) items → Sketches setting sketched items
+sketches_own setting sketched items gathers = record {
+  fed = items;
+  counted = ones items;
+  feeds = gathers.1;
+  weigh = StandFor-own items;
+  count = StandFor-own (ones items);
+  same = λ kept. refl;
 }
+
+-- such as stand for others, once they are fed
+pub sketches_settled : (setting : Setting) (sketched : Sketched) (tally : List KeyTotal) (items : List Item)
+    → Gathers setting (Tallied tally) items → IsFed setting sketched (weights_of tally) (packets_of tally)
+    → Sketches setting sketched items
+sketches_settled setting sketched tally items gathers feeds = record {
+  fed = weights_of tally;
+  counted = packets_of tally;
+  feeds = feeds;
+  weigh = gathers.1.weights;
+  count = gathers.1.packets;
+  same = λ kept. absurd (true≢false (sym gathers.0 ∙ kept));
+}
+
+-- the first entries and the next weigh no more than all
+pub weight_of-take : (f : KeyTotal → Item) (xs : List KeyTotal) (i : ℕ) (d : KeyTotal) → i < length xs
+    → weight_of (map f (take i xs)) + (f (get_or xs i d)).weight ≤ weight_of (map f xs)
+weight_of-take f [] i d within = absurd (omega (arith, within))
+weight_of-take f (x ∷ xs) zero d within = omega (arith, sum_by-cons (λ (y : Item). y.weight) (f x) (map f xs))
+weight_of-take f (x ∷ xs) (suc i) d within =
+    let weight : Item → ℕ = λ y. y.weight in
+    omega (
+      arith,
+      weight_of-take f xs i d (omega (arith, within)),
+      sum_by-cons weight (f x) (map f (take i xs)),
+      sum_by-cons weight (f x) (map f xs),
+    )
 
 -- where no keys are noted, none are noted after more items
 pub noted_none : (setting : Setting) (items more : List Item) (all : Option Noted) → all ≡ None
@@ -192,6 +241,15 @@ unfolding drops
 drops_is setting items None noted = rw noted refl
 drops_is setting items (Some all) noted = rw noted.0 refl
 
+-- the mark is the same for the items that were fed
+pub drops_same : (setting : Setting) (fed items : List Item) → ((setting.heap == 0) ≡ false → fed ≡ items)
+    → drops setting fed ≡ drops setting items
+unfolding drops
+drops_same setting fed items same = elim (cases_Bool (setting.heap == 0)) [
+  | inl all ↦ rw all refl
+  | inr some ↦ rw (same some) refl
+]
+
 -- noted keys, where it is known whether there are some
 pub noted_some : (setting : Setting) (items : List Item) {all : Option Noted} {keys : Noted} → all ≡ Some keys
     → IsNoted setting items all → IsNoted setting items (Some keys)
@@ -212,14 +270,6 @@ pub nothing_noted : (setting : Setting) (all : Option Noted) → all ≡ None �
 nothing_noted setting all is heap = rw is (grind (arith, nat_tests))
 
 -- no packet was counted yet
-pub live_first : (seed n : ℕ) (live : List ℕ) → live ≡ replicate n 0 → AreLive seed [] live
-live_first seed n live is = record {
-  each = λ level within.
-      let inside : level < n = omega (arith, within, ap (λ (l : List ℕ). length l) is, length-replicate {A = ℕ} n 0) in
-      ap (λ (l : List ℕ). slice_index l level) is ∙ get_or-replicate n level 0 0 inside
-      ∙ sym (ap (λ (items : List Item). length items) (live_items-none seed level));
-}
-
 pub weighed_first : (seed n : ℕ) (weights : List ℕ) → weights ≡ replicate n 0 → AreWeighed seed [] weights
 weighed_first seed n weights is = record {
   each = λ level within.

@@ -12,9 +12,9 @@ use Rattle.count_sketch.specs.Counters.{Item}
 use Rattle.mon_central.specs.Central.{block_of, change_of, epoch_lines, epochs_lines}
 use Rattle.flow_keys.specs.declared.routed.Routed.{Routed}
 use Rattle.routed_trace.specs.Routed.{item_of, items_in}
-use Rattle.mon_central.specs.Sketched.{Sketches, Splits}
+use Rattle.mon_central.specs.Sketched.{Gathers, Splits}
 use Rattle.mon_call.specs.declared.setting.Setting.{Setting}
-use Rattle.mon_central.specs.declared.sketching.Sketched.{Sketched}
+use Rattle.mon_central.specs.declared.gathering.Gathered.{Gathered}
 use Rattle.mon_central.proofs.Ranges.{flat_map-range}
 
 -- the items of two lists of packets
@@ -47,41 +47,41 @@ length-items_in-le epoch routed =
     let test = λ (packet : Routed). packet.epoch == epoch in
     omega (arith, length-map (filter test routed) item_of, length-filter test routed, count_by-le-length test routed)
 
--- one more sketch, of an epoch without items
-pub splits_reach : (setting : Setting) (sketches : List Sketched) (sketched : Sketched) (routed : List Routed)
-    → Sketches setting sketched [] → Splits setting sketches routed → Splits setting (sketches ++ sketched ∷ []) routed
-splits_reach setting sketches sketched routed empty splits = record {
+-- one more epoch, without items
+pub splits_reach : (setting : Setting) (sketches : List Gathered) (gathered : Gathered) (routed : List Routed)
+    → Gathers setting gathered [] → Splits setting sketches routed → Splits setting (sketches ++ gathered ∷ []) routed
+splits_reach setting sketches gathered routed empty splits = record {
   each = λ epoch d within. elim (cases_lt epoch (length sketches)) [
-    | inl below ↦ subst (λ (s : Sketched). Sketches setting s (items_in epoch routed))
-        (sym (get_or-append sketches (sketched ∷ []) d epoch below)) (splits.each epoch d below)
+    | inl below ↦ subst (λ (s : Gathered). Gathers setting s (items_in epoch routed))
+        (sym (get_or-append sketches (gathered ∷ []) d epoch below)) (splits.each epoch d below)
     | inr above ↦
-        let last : length sketches ≡ epoch = omega (arith, within, above, length-append sketches (sketched ∷ [])) in
-        subst (λ (s : Sketched). Sketches setting s (items_in epoch routed))
-        (sym (get_or_push sketches sketched d epoch last))
-        (subst (λ (items : List Item). Sketches setting sketched items) (sym (splits.none epoch above)) empty)
+        let last : length sketches ≡ epoch = omega (arith, within, above, length-append sketches (gathered ∷ [])) in
+        subst (λ (s : Gathered). Gathers setting s (items_in epoch routed))
+        (sym (get_or_push sketches gathered d epoch last))
+        (subst (λ (items : List Item). Gathers setting gathered items) (sym (splits.none epoch above)) empty)
   ];
-  none = λ epoch past. splits.none epoch (omega (arith, past, length-append sketches (sketched ∷ [])));
+  none = λ epoch past. splits.none epoch (omega (arith, past, length-append sketches (gathered ∷ [])));
 }
 
--- one more packet in the sketch of its epoch
-pub splits_add : (setting : Setting) (sketches : List Sketched) (packet : Routed) (old more : Sketched)
+-- one more packet in its epoch
+pub splits_add : (setting : Setting) (sketches : List Gathered) (packet : Routed) (old more : Gathered)
     (routed : List Routed) → packet.epoch < length sketches
-    → ((items : List Item) → Sketches setting (slice_index_or sketches packet.epoch old) items
-    → Sketches setting more (items ++ item_of packet ∷ []))
+    → ((items : List Item) → Gathers setting (slice_index_or sketches packet.epoch old) items
+    → Gathers setting more (items ++ item_of packet ∷ []))
     → Splits setting sketches routed → Splits setting (set sketches packet.epoch more) (routed ++ packet ∷ [])
 splits_add setting sketches packet old more routed within adds splits = record {
   each = λ k d inside. elim (cases_eq k packet.epoch) [
     | inl same ↦
-        subst (λ (n : ℕ). Sketches setting (slice_index_or (set sketches packet.epoch more) n d)
+        subst (λ (n : ℕ). Gathers setting (slice_index_or (set sketches packet.epoch more) n d)
         (items_in n (routed ++ packet ∷ []))) (sym same)
-        (subst (λ (s : Sketched). Sketches setting s (items_in packet.epoch (routed ++ packet ∷ [])))
+        (subst (λ (s : Gathered). Gathers setting s (items_in packet.epoch (routed ++ packet ∷ [])))
         (sym (get_or-set_same sketches packet.epoch more d within))
-        (subst (λ (items : List Item). Sketches setting more items) (sym own)
+        (subst (λ (items : List Item). Gathers setting more items) (sym own)
         (adds (items_in packet.epoch routed) (splits.each packet.epoch old within))))
     | inr apart ↦
-        subst (λ (s : Sketched). Sketches setting s (items_in k (routed ++ packet ∷ [])))
+        subst (λ (s : Gathered). Gathers setting s (items_in k (routed ++ packet ∷ [])))
         (sym (get_or-set_other sketches packet.epoch k more d apart))
-        (subst (λ (items : List Item). Sketches setting (slice_index_or sketches k d) items) (sym (other k apart))
+        (subst (λ (items : List Item). Gathers setting (slice_index_or sketches k d) items) (sym (other k apart))
         (splits.each k d (omega (arith, inside, length-set sketches packet.epoch more))))
   ];
   none = λ k past.
@@ -99,12 +99,12 @@ splits_add setting sketches packet old more routed within adds splits = record {
         ∙ ap (λ (items : List Item). items_in k routed ++ items) (items_in-other packet k (λ same. apart (sym same)))
         ∙ append-nil (items_in k routed)
 
--- the sketch of an epoch
-pub sketch_at : (setting : Setting) (sketches : List Sketched) (routed : List Routed) (epoch : ℕ) (sketched : Sketched)
-    → sketched ≡ slice_index_or sketches epoch sketched
-    → epoch < length sketches → Splits setting sketches routed → Sketches setting sketched (items_in epoch routed)
-sketch_at setting sketches routed epoch sketched is within splits =
-    subst (λ (s : Sketched). Sketches setting s (items_in epoch routed)) (sym is) (splits.each epoch sketched within)
+-- what was gathered of an epoch, where it is still the same
+pub gathered_at : (setting : Setting) (sketches : List Gathered) (routed : List Routed) (epoch : ℕ)
+    (gathered d : Gathered) → gathered ≡ slice_index_or sketches epoch d
+    → epoch < length sketches → Splits setting sketches routed → Gathers setting gathered (items_in epoch routed)
+gathered_at setting sketches routed epoch gathered d is within splits =
+    subst (λ (s : Gathered). Gathers setting s (items_in epoch routed)) (sym is) (splits.each epoch d within)
 
 -- the lines of one more epoch
 pub epochs_lines-push : (setting : Setting) (routed : List Routed) (epoch : ℕ) (text lines : List ℕ)

@@ -13,6 +13,7 @@ use Rattle.count_sketch.specs.Counters.{Item, counters_of}
 use Rattle.count_sketch.proofs.Shares.{length-counters_of}
 use Rattle.sketch_levels.specs.Items.{live_items, weight_of}
 use Rattle.sketch_levels.specs.Levels as levels
+use Rattle.sketch_levels.proofs.Standing.{counters-same}
 use Rattle.sketch_merge.specs.Merged.{View, HaveUpTo, counters_at, keys_at}
 use Rattle.change_report.specs.Block.{block_text}
 use Rattle.change_report.specs.Change.{change_lines}
@@ -58,10 +59,13 @@ counters_joined setting sketched items counters sketches is =
     flat_map-map (λ part. part) (level_counters setting items) (range_with_len 0 (setting.levels + 1))
     ∙ flat_map-same (level_counters setting items) (λ level. (levels.level_at sketched.levels level).sketch.counters)
     (setting.levels + 1) (λ level below.
-    let top : sketched.levels.setting.levels ≡ setting.levels = ap (λ (s : sketch.Setting). s.levels) sketches.shape in
-    let held = counters_held sketched.levels items level sketches.holds (omega (arith, top, below)) in
-    sym (held ∙ ap (λ (s : sketch.Setting). counters_of s.seed level s.rows s.width (live_items s.seed level items))
-    sketches.shape))
+    let feeds = sketches.feeds in
+    let top : sketched.levels.setting.levels ≡ setting.levels = ap (λ (s : sketch.Setting). s.levels) feeds.shape in
+    let held = counters_held sketched.levels sketches.fed level feeds.holds (omega (arith, top, below)) in
+    sym (held
+    ∙ ap (λ (s : sketch.Setting). counters_of s.seed level s.rows s.width (live_items s.seed level sketches.fed))
+    feeds.shape
+    ∙ counters-same sketches.fed items sketches.weigh setting.seed level setting.rows setting.width))
     ∙ sym is
 
 -- each level has as many counters

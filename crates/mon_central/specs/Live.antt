@@ -1,4 +1,4 @@
--- How many items are live at each level, and what they weigh.
+-- What weighs at each level, of the items that are live there.
 use Rattle.std.specs.Prelude.{◌≡◌, ℕ, ◌+◌, ◌<◌, cond, List, length, slice_index}
 use Rattle.hash_family.specs.Hash.{is_live}
 use Rattle.count_sketch.specs.Counters.{Item}
@@ -9,10 +9,6 @@ pub record CountsLive (seed : ℕ) (key : List ℕ) (more : ℕ) (old new : List
   pub size : length new ≡ length old
   pub each : (level : ℕ) → level < length old → slice_index new level ≡ slice_index old level + cond {A = ℕ} (is_live
       seed level key) more 0
-
--- the counts are those of a list of items
-pub record AreLive (seed : ℕ) (items : List Item) (live : List ℕ) : Type 0 where
-  pub each : (level : ℕ) → level < length live → slice_index live level ≡ length (live_items seed level items)
 
 -- the weights are those of a list of items
 pub record AreWeighed (seed : ℕ) (items : List Item) (weights : List ℕ) : Type 0 where

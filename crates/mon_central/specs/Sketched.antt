@@ -4,10 +4,11 @@ use Rattle.std.specs.List.{flat_map, list_any, range_with_len}
 use Rattle.flow_keys.specs.Frame.{frame_key}
 use Rattle.hash_family.specs.Setting as sketch
 use Rattle.count_sketch.specs.Counters.{Item, AllUpTo}
-use Rattle.sketch_levels.specs.Items.{live_items}
+use Rattle.sketch_levels.specs.Items.{live_items, weight_of}
 use Rattle.sketch_levels.specs.Kept as levels
 use Rattle.sketch_levels.specs.Levels.{View, Holds, level_at}
 use Rattle.sketch_levels.specs.Noted.{Noted, HoldsNotes, notes_of}
+use Rattle.sketch_levels.specs.Stands.{IsTally, StandFor, ones, packets_of, weights_of}
 use Rattle.sketch_merge.specs.Merged as merged
 use Rattle.sketch_merge.specs.Merged.{HaveUpTo}
 use Rattle.pcap_reader.specs.declared.header.Header.{Header}
@@ -21,8 +22,10 @@ use Rattle.mon_call.specs.declared.status.Status.{Status}
 use Rattle.mon_call.specs.declared.status.Status.TheVariants.{Trace, Memory}
 use Rattle.mon_call.specs.Setting.{is_setting}
 use Rattle.mon_central.specs.Central.{central_view, levels_setting, kept_keys}
-use Rattle.mon_central.specs.Live.{AreLive, AreWeighed}
+use Rattle.mon_central.specs.Live.{AreWeighed}
 use Rattle.mon_central.specs.declared.epochs.Epochs.{Epochs}
+use Rattle.mon_central.specs.declared.gathering.Gathered.{Gathered}
+use Rattle.mon_central.specs.declared.gathering.Gathered.TheVariants.{Tallied, Fed}
 use Rattle.mon_call.specs.declared.setting.Setting.{Setting}
 use Rattle.mon_central.specs.declared.sketching.Sketched.{Sketched}
 
@@ -32,26 +35,54 @@ IsNoted setting items None = (setting.heap == 0) ≡ false
 IsNoted setting items (Some noted) =
     ((setting.heap == 0) ≡ true) × (noted.top ≡ setting.levels) × HoldsNotes noted (notes_of setting.seed items)
 
--- what was sketched are these items
-pub record Sketches (setting : Setting) (sketched : Sketched) (items : List Item) : Type 0 where
+-- these items were fed, and counted by their packets
+pub record IsFed (setting : Setting) (sketched : Sketched) (fed counted : List Item) : Type 0 where
   pub family : sketched.family ≡ setting.seed
   pub shape : sketched.levels.setting ≡ levels_setting setting
-  pub holds : Holds sketched.levels items
-  pub noted : IsNoted setting items sketched.all
+  pub holds : Holds sketched.levels fed
+  pub noted : IsNoted setting fed sketched.all
   pub number : length sketched.live.items ≡ setting.levels + 1
-  pub live : AreLive setting.seed items sketched.live.items
+  pub live : AreWeighed setting.seed counted sketched.live.items
   pub size : length sketched.weights.items ≡ setting.levels + 1
-  pub weights : AreWeighed setting.seed items sketched.weights.items
-  pub number_is : sketched.number ≡ length items
+  pub weights : AreWeighed setting.seed fed sketched.weights.items
+  pub number_is : sketched.number ≡ weight_of counted
 
--- one more packet of this weight can be counted
-pub record HasRoom (sketched : Sketched) (weight : ℕ) : Type 0 where
-  pub number : sketched.number < 1048576
+-- what was sketched are these items: such as stand for them were fed, and the very items where heaps keep keys
+pub record Sketches (setting : Setting) (sketched : Sketched) (items : List Item) : Type 0 where
+  pub fed : List Item
+  pub counted : List Item
+  pub feeds : IsFed setting sketched fed counted
+  pub weigh : StandFor fed items
+  pub count : StandFor counted (ones items)
+  pub same : (setting.heap == 0) ≡ false → fed ≡ items
+
+-- so many more packets of this weight together can be fed
+pub record HasRoom (sketched : Sketched) (packets weight : ℕ) : Type 0 where
+  pub number : sketched.number + packets ≤ 1048576
   pub light : sketched.levels.weight + weight ≤ 2 ^ 44
   pub levels : length sketched.live.items ≤ 17
   pub same : length sketched.weights.items ≡ length sketched.live.items
-  pub live : All (λ count. count < 1048576) sketched.live.items
-  pub weights : All (λ sum. sum ≤ 2 ^ 44) sketched.weights.items
+  pub live : All (λ count. count + packets ≤ 1048576) sketched.live.items
+  pub weights : All (λ sum. sum + weight ≤ 2 ^ 44) sketched.weights.items
+
+-- what was gathered are these items: counted key by key where all live keys are kept, and fed where heaps keep some
+abbrev pub Gathers : Setting → Gathered → List Item → Type 0
+Gathers setting (Tallied tally) items = ((setting.heap == 0) ≡ true) × IsTally tally items
+Gathers setting (Fed sketched) items = ((setting.heap == 0) ≡ false) × IsFed setting sketched items (ones items)
+
+-- one more packet of this weight can be gathered
+abbrev pub HasPlace : Gathered → ℕ → Type 0
+HasPlace (Tallied tally) weight =
+    (weight_of (packets_of tally) < 1048576) × (weight_of (weights_of tally) + weight ≤ 2 ^ 44)
+HasPlace (Fed sketched) weight = HasRoom sketched 1 weight
+
+-- what was gathered are at most 1,048,576 items, which weigh at most 2^44
+pub record IsGathered (setting : Setting) (gathered : Gathered) : Type 0 where
+  pub range : IsTrue (is_setting setting)
+  pub items : List Item
+  pub few : length items ≤ 1048576
+  pub light : weight_of items ≤ 2 ^ 44
+  pub gathers : Gathers setting gathered items
 
 -- one of so many levels has a mark
 abbrev pub any_mark : sketch.Setting → List Item → ℕ → Bool
@@ -74,14 +105,14 @@ abbrev pub keys_up_to : Setting → List Item → ℕ → List (List (List ℕ))
 keys_up_to setting items number = map (λ level. kept_keys setting level (live_items setting.seed level items))
     (range_with_len 0 number)
 
--- each sketch is that of the items of its epoch, and no other epoch has items
-pub record Splits (setting : Setting) (sketches : List Sketched) (routed : List Routed) : Type 0 where
-  pub each : (epoch : ℕ) (d : Sketched) → epoch < length sketches
-      → Sketches setting (slice_index_or sketches epoch d) (items_in epoch routed)
+-- of each epoch its items were gathered, and no other epoch has items
+pub record Splits (setting : Setting) (sketches : List Gathered) (routed : List Routed) : Type 0 where
+  pub each : (epoch : ℕ) (d : Gathered) → epoch < length sketches
+      → Gathers setting (slice_index_or sketches epoch d) (items_in epoch routed)
   pub none : (epoch : ℕ) → length sketches ≤ epoch → items_in epoch routed ≡ []
 
 -- the sketches are those of fewer than 1,048,576 packets, which weigh at most 2^44 together with one of this weight
-pub record HasSpace (sketches : List Sketched) (weight : ℕ) : Type 0 where
+pub record HasSpace (sketches : List Gathered) (weight : ℕ) : Type 0 where
   pub setting : Setting
   pub range : IsTrue (is_setting setting)
   pub routed : List Routed
@@ -89,12 +120,13 @@ pub record HasSpace (sketches : List Sketched) (weight : ℕ) : Type 0 where
   pub light : weight_of_routed routed + weight ≤ 2 ^ 44
   pub splits : Splits setting sketches routed
 
--- the sketches are those of at most 1,048,576 packets in at most eight epochs
-pub record AreSplit (setting : Setting) (sketches : List Sketched) : Type 0 where
+-- the sketches are those of at most 1,048,576 packets, of a weight of at most 2^44, in at most eight epochs
+pub record AreSplit (setting : Setting) (sketches : List Gathered) : Type 0 where
   pub range : IsTrue (is_setting setting)
   pub number : length sketches ≤ 8
   pub routed : List Routed
   pub few : length routed ≤ 1048576
+  pub light : weight_of_routed routed ≤ 2 ^ 44
   pub splits : Splits setting sketches routed
 
 -- a merged sketch of this setting, of which a difference can be made

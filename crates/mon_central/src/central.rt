@@ -65,7 +65,7 @@ fn report<I: Inputs, K: Sink>(
     ensures picks { Picks (I.picks inputs.old) (I.picks inputs.new) (central_reads trace.now None) result }
     ensures keeps { Keeps (call_of (I.state inputs.old) (I.state inputs.new) (K.state sink.old) (K.state sink.new)) }
 {
-    let epochs = match sketch(alloc, trace, topology, setting, inputs) {
+    let mut epochs = match sketch(alloc, trace, topology, setting, inputs) {
         Ok(epochs) => epochs,
         Err(status) => return status,
     };

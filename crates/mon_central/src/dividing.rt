@@ -1,20 +1,20 @@
-//! The sketches of the epochs.
+//! What is gathered of the epochs.
 ghost use Rattle.std.specs.Prelude.{◌≡◌, ◌<◌, ◌≤◌, ◌+◌, ◌++◌, [], ◌∷◌, List, max, OnOk, IsTrue, length};
 ghost use Rattle.flow_keys.specs.declared.routed.Routed as packets;
 ghost use Rattle.mon_call.specs.Setting.{is_setting};
 ghost use Rattle.mon_central.specs.Sketched.{HasSpace, Splits};
 
-use crate::sketching::Sketched;
+use crate::gathering::Gathered;
 use flow_keys::Routed;
 use mon_call::Setting;
 use mon_io::Memory;
 use std::alloc::Global;
 
-/// Makes sketches until there are so many.
+/// Makes epochs until there are so many.
 pub(crate) fn reach(
     alloc: Global,
     setting: &Setting,
-    sketches: &mut Vec<Sketched>,
+    sketches: &mut Vec<Gathered>,
     number: usize,
 ) -> Result<(), Memory>
     requires { IsTrue (is_setting setting.now) }
@@ -23,8 +23,8 @@ pub(crate) fn reach(
         Splits setting.now sketches.old.items routed → Splits setting.now sketches.new.items routed) }
 {
     while sketches.len() < number {
-        let sketched = Sketched::new(alloc, setting)?;
-        let Ok(()) = sketches.push(sketched) else {
+        let gathered = Gathered::new(alloc, setting)?;
+        let Ok(()) = sketches.push(gathered) else {
             return Err(Memory);
         };
     }
@@ -32,7 +32,7 @@ pub(crate) fn reach(
 }
 
 /// Counts a packet in its epoch.
-pub(crate) fn add_to(sketches: &mut [Sketched], packet: &Routed) -> Result<(), Memory>
+pub(crate) fn add_to(sketches: &mut [Gathered], packet: &Routed) -> Result<(), Memory>
     requires within { packet.now.epoch < length sketches.old }
     requires room { HasSpace sketches.old packet.now.weight }
     ensures number { length sketches.new ≡ length sketches.old }

@@ -1,4 +1,4 @@
-//! A trace as it is sketched, epoch by epoch.
+//! A trace as it is read, epoch by epoch.
 ghost use Rattle.std.specs.Prelude.{◌≡◌, ◌<◌, ◌≤◌, [], ◌∷◌, Option, IfOk, IsTrue, string_bytes};
 ghost use Rattle.mon_io.specs.Inputs.{Picked};
 ghost use Rattle.mon_call.specs.Setting.{is_setting};
@@ -8,7 +8,7 @@ ghost use Rattle.mon_central.specs.Sketched.{IsSketched};
 
 use crate::blocks::epochs_text;
 use crate::dividing::{add_to, reach};
-use crate::sketching::Sketched;
+use crate::gathering::Gathered;
 use crate::text::text_of;
 use flow_keys::{FlowKey, key_of};
 use mon_call::{Setting, Status, trace_status};
@@ -18,11 +18,11 @@ use routed_trace::TraceCounts;
 use std::alloc::Global;
 use topology::Topology;
 
-/// One sketch for each epoch so far, and the numbers of the records.
+/// What was gathered of each epoch so far, and the numbers of the records.
 #[derive(Drop)]
 pub(crate) struct Epochs {
     counts: TraceCounts,
-    sketches: Vec<Sketched>,
+    sketches: Vec<Gathered>,
 }
 
 /// Reads a trace to its end.
@@ -113,14 +113,14 @@ impl Epochs {
         }
     }
 
-    /// The text of what was sketched.
-    pub(crate) fn text(&self, alloc: Global, setting: &Setting) -> Result<String, Memory>
-        requires part { (topology : Option Topo) × IsPart setting.now topology self.now }
+    /// The text of what was sketched. Counted keys are given up once they are sketched.
+    pub(crate) fn text(&mut self, alloc: Global, setting: &Setting) -> Result<String, Memory>
+        requires part { (topology : Option Topo) × IsPart setting.now topology self.old }
         requires range { IsTrue (is_setting setting.now) }
         ensures { IfOk result (λ text. (topology : Option Topo) (header : Header) (members : List Record) →
-            Divides setting.now topology self.now header members → string_bytes text ≡ central_text setting.now topology header members) }
+            Divides setting.now topology self.old header members → string_bytes text ≡ central_text setting.now topology header members) }
     {
-        let epochs = epochs_text(alloc, setting, &self.sketches)?;
+        let epochs = epochs_text(alloc, setting, &mut self.sketches)?;
         text_of(alloc, setting, &self.counts, &epochs)
     }
 }

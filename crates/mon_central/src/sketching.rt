@@ -1,4 +1,4 @@
-//! The packets of an epoch as they are sketched.
+//! The sketch of the packets of an epoch.
 ghost use Rattle.std.specs.Prelude.{◌≡◌, ◌<◌, ◌≤◌, ◌+◌, ◌*◌, ◌++◌, [], ◌∷◌, ℕ, List, All, IfOk, OnOk, IsTrue, length, map, replicate, string_bytes};
 ghost use Rattle.std.specs.Cmp.Lexicographic.{slice_cmp};
 ghost use Rattle.std.specs.Ordering.{nat_cmp};
@@ -7,12 +7,11 @@ ghost use Rattle.count_sketch.specs.Counters.{Item, AllUpTo};
 ghost use Rattle.sketch_merge.specs.Merged.{HaveUpTo};
 ghost use Rattle.mon_call.specs.Setting.{is_setting};
 ghost use Rattle.mon_central.specs.Central.{levels_setting, nonzero};
-ghost use Rattle.routed_trace.specs.Routed.{item_of};
 ghost use Rattle.hash_family.specs.Setting.{setting_of};
 
 use crate::live::count_live;
 use change_report::{LevelCount, change_text, epoch_text};
-use flow_keys::{FlowKey, Routed};
+use flow_keys::FlowKey;
 use hash_family::{Family, Params};
 use mon_call::Setting;
 use mon_io::Memory;
@@ -33,7 +32,7 @@ pub(crate) struct Sketched {
 }
 
 impl Sketched {
-    ghost use Rattle.mon_central.specs.Sketched.{Sketches, IsMerged, IsSketch, HasRoom, any_mark, counters_up_to, keys_up_to};
+    ghost use Rattle.mon_central.specs.Sketched.{IsFed, Sketches, IsMerged, IsSketch, HasRoom, any_mark, counters_up_to, keys_up_to};
     ghost use Rattle.mon_central.specs.Central.{block_of, central_view, change_of, kept_keys, level_count, level_counts};
     ghost use Rattle.sketch_levels.specs.Items.{live_items};
     ghost use Rattle.sketch_levels.specs.Levels.{Holds};
@@ -41,7 +40,7 @@ impl Sketched {
     /// Nothing yet.
     pub(crate) fn new(alloc: Global, setting: &Setting) -> Result<Sketched, Memory>
         requires { IsTrue (is_setting setting.now) }
-        ensures { IfOk result (λ sketched. Sketches setting.now sketched []) }
+        ensures { IfOk result (λ sketched. IsFed setting.now sketched [] []) }
     {
         let family = Family::new(alloc, setting.seed)?;
         let levels = Levels::new(alloc, params_of(setting))?;
@@ -62,19 +61,20 @@ impl Sketched {
         })
     }
 
-    /// Counts a packet.
-    pub(crate) fn add(&mut self, packet: &Routed) -> Result<(), Memory>
-        requires { HasRoom self.old packet.now.weight }
-        ensures { OnOk result ((setting : Setting) (items : List Item) →
-            Sketches setting self.old items → Sketches setting self.new (items ++ item_of packet.now ∷ [])) }
+    /// Feeds so many packets with this key, of this weight together.
+    pub(crate) fn feed(&mut self, key: &FlowKey, packets: u32, weight: u64) -> Result<(), Memory>
+        requires { HasRoom self.old packets weight }
+        ensures { OnOk result ((setting : Setting) (fed counted : List Item) → IsFed setting self.old fed counted →
+            IsFed setting self.new (fed ++ record { key = key.now; weight = weight } ∷ [])
+            (counted ++ record { key = key.now; weight = packets } ∷ [])) }
     {
-        let key = &packet.key;
-        self.number += 1;
-        self.levels.feed(key, packet.weight);
+        self.number += packets;
+        self.levels.feed_by(key, weight);
         count_live(
             &self.family,
             key,
-            packet.weight,
+            packets,
+            weight,
             &mut self.live,
             &mut self.weights,
         );

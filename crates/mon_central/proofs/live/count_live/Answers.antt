@@ -1,7 +1,7 @@
-use Rattle.std.proofs.Common.{◌≡◌, ◌+◌, ℕ, true, set, slice_index, subst, sym, ◌∙◌, arith}
+use Rattle.std.proofs.Common.{◌≡◌, true, sym, ◌∙◌, arith}
 use Rattle.hash_family.specs.Hash.{is_live}
 use Rattle.sketch_levels.proofs.Live.{live_at_0, live_here, dead_here}
-use Rattle.mon_central.proofs.LiveCounts.{HasCounted, all_counted, one_more}
+use Rattle.mon_central.proofs.LiveCounts.{all_counted, one_more}
 use Rattle.mon_central.proofs.live.count_live.Goals as goal
 use Rattle.mon_central.proofs.live.count_live.Goals.{else-level-gt0-via-then-level-gt0+else-not-sample, else-level-gt0-via-else-level-gt0}
 
@@ -25,10 +25,6 @@ loop-level-preserved c =
           (omega arith)
     ] in (
       one_more _ _ _ _ _ _ c.loop-level.invariant.0 live (omega arith),
-      subst (λ (more : ℕ). HasCounted c.args.family.now c.args.key.now c.args.weight c.args.weights.now
-          (set c.loop-level.weights c.loop-level.level (slice_index c.loop-level.weights c.loop-level.level + more))
-          (c.loop-level.level + 1))
-          (sym c.from.ensures)
-          (one_more _ _ _ _ _ _ c.loop-level.invariant.1 live
-          (omega (arith, c.loop-level.invariant.0.size, c.loop-level.invariant.1.size, c.requires.same))),
+      one_more _ _ _ _ _ _ c.loop-level.invariant.1 live
+          (omega (arith, c.loop-level.invariant.0.size, c.loop-level.invariant.1.size, c.requires.same)),
     )

@@ -7,7 +7,7 @@ use Rattle.routed_trace.specs.Routed.{routed_of, weight_of_routed}
 use Rattle.routed_trace.proofs.Records.{length-routed_of-le}
 use Rattle.routed_trace.proofs.Weights.{routed_light}
 use Rattle.mon_central.specs.Sketched.{Splits}
-use Rattle.mon_central.specs.declared.sketching.Sketched.{Sketched}
+use Rattle.mon_central.specs.declared.gathering.Gathered.{Gathered}
 use Rattle.mon_central.proofs.OneMore.{divides_more, splits_none, splits_one}
 use Rattle.mon_central.proofs.epochs.Epochs.add.Goals as goal
 
@@ -24,7 +24,7 @@ add_to-requires-clause-within c =
     let within : c.in-Some.routed.epoch < c.add.new.self.epochs =
     subst (λ (f : Option Routed). IfSome f (λ (p : Routed). p.epoch < c.add.new.self.epochs)) c.in-Some.is
     c.in-Ok.ensures.within in
-    let size : length c.deref_mut.result.now ≡ length c.reach.new.sketches.items = ap (λ (l : List Sketched). length l)
+    let size : length c.deref_mut.result.now ≡ length c.reach.new.sketches.items = ap (λ (l : List Gathered). length l)
     c.deref_mut.ensures.value in
     omega (arith, within, size, c.in-Ok-reach.ensures.number)
 
@@ -52,7 +52,7 @@ add_to-requires-clause-room c =
         routed_light division topology next.header all
             (omega (arith, next.few, length-append next.members (next.member ∷ []))) added.0.divided,
       );
-      splits = subst (λ (l : List Sketched). Splits c.args.setting.now l routed) (sym c.deref_mut.ensures.value)
+      splits = subst (λ (l : List Gathered). Splits c.args.setting.now l routed) (sym c.deref_mut.ensures.value)
           (c.in-Ok-reach.ensures.splits routed next.divides.splits);
     }
 
@@ -63,12 +63,12 @@ returns-in-Ok-add_to c = λ header members member divides is key_is.
     let packet = c.in-Some.routed in
     let size : length c.add_to.new.sketches ≡ c.reach.new.sketches.len = search rules in
     let kept = with_items_is c.reach.new.sketches c.add_to.new.sketches size in
-    let same : length c.deref_mut.result.now ≡ length c.reach.new.sketches.items = ap (λ (l : List Sketched). length l)
+    let same : length c.deref_mut.result.now ≡ length c.reach.new.sketches.items = ap (λ (l : List Gathered). length l)
     c.deref_mut.ensures.value in
     divides_more c.in-Ok.found member divides added
-    (ap (λ (l : List Sketched). length l) kept ∙ c.in-Ok-add_to.ensures.number ∙ same ∙ c.in-Ok-reach.ensures.number)
-    (subst (λ (l : List Sketched). Splits c.args.setting.now l (routed ++ option_to_list c.in-Ok.found)) (sym kept)
+    (ap (λ (l : List Gathered). length l) kept ∙ c.in-Ok-add_to.ensures.number ∙ same ∙ c.in-Ok-reach.ensures.number)
+    (subst (λ (l : List Gathered). Splits c.args.setting.now l (routed ++ option_to_list c.in-Ok.found)) (sym kept)
     (splits_one c.args.setting.now c.add_to.new.sketches routed c.in-Ok.found packet c.in-Some.is
     (c.in-Ok-add_to.ensures.splits c.args.setting.now routed
-    (subst (λ (l : List Sketched). Splits c.args.setting.now l routed) (sym c.deref_mut.ensures.value)
+    (subst (λ (l : List Gathered). Splits c.args.setting.now l routed) (sym c.deref_mut.ensures.value)
     (c.in-Ok-reach.ensures.splits routed divides.splits)))))

@@ -9,6 +9,6 @@ change_text-requires-clause-setting c = c.requires.merged.shape ∙ sym c.requir
 pub returns : goal.returns
 returns c = record {
   text = if_ok_weaker c.change_text.result (λ text is earlier items sketches before view.
-      is ∙ change_is c.args.setting.now c.args.epoch earlier items _ _ _ sketches.family before view)
+      is ∙ change_is c.args.setting.now c.args.epoch earlier items _ _ _ sketches.feeds.family before view)
       c.change_text.ensures.text;
 }

@@ -2,10 +2,11 @@ use Rattle.std.proofs.Common.{◌≡◌, ℕ, ◌+◌, ◌*◌, ◌≤◌, ◌&&
 use Rattle.std.specs.List.{range_with_len}
 use Rattle.std.proofs.lemmas.List.Elements.{All-map}
 use Rattle.hash_family.specs.Setting as sketch
+use Rattle.sketch_levels.proofs.Standing.{weight_of-all}
 use Rattle.sketch_merge.specs.Merged.{HaveUpTo}
 use Rattle.mon_central.specs.Central.{levels_setting, drops}
 use Rattle.mon_central.specs.Sketched.{any_mark}
-use Rattle.mon_central.proofs.Packets.{drops_is, not_some}
+use Rattle.mon_central.proofs.Packets.{drops_is, drops_same, not_some}
 use Rattle.mon_central.proofs.Ranges.{if_ok_by_three, if_ok_by_five}
 use Rattle.mon_central.proofs.Views.{counters_joined, counters_shaped, level_counters, view_is}
 use Rattle.mon_central.proofs.sketching.Sketched.merged.Goals as goal
@@ -17,8 +18,9 @@ returns-clause-value c =
     let from = c.from_levels.ensures in
     let setting = c.args.setting.now in
     if_ok_by_five r (λ merged of_setting of_weight of_counters of_keys of_dropped items sketches.
-    let mark = any_mark (levels_setting setting) items (setting.levels + 1) in
-    let all = drops_is setting items c.args.self.now.all sketches.noted in
+    let fed = sketches.fed in
+    let mark = any_mark (levels_setting setting) fed (setting.levels + 1) in
+    let all = drops_is setting fed c.args.self.now.all sketches.feeds.noted in
     let number : c.params_of.result.levels ≡ setting.levels = ap (λ (s : sketch.Setting). s.levels)
     c.params_of.ensures in
     let size : setting.rows * setting.width ≡ c.params_of.result.rows * c.params_of.result.width = sym
@@ -26,10 +28,10 @@ returns-clause-value c =
     let parts = map (level_counters setting items) (range_with_len 0 (setting.levels + 1)) in
     let shaped = subst (λ (n : ℕ). All (λ part. length part ≡ n) parts) size
     (counters_shaped setting items (setting.levels + 1)) in
-    let dropped : c.if-is_none.dropped ≡ drops setting items = elim c.if-is_none.branch [
+    let dropped : c.if-is_none.dropped ≡ drops setting fed = elim c.if-is_none.branch [
       | then-is_none w ↦
-          w.dropped-is ∙ w.any_dropped-dropped.ensures items sketches.holds
-          ∙ ap (λ (s : sketch.Setting). any_mark s items (setting.levels + 1)) sketches.shape
+          w.dropped-is ∙ w.any_dropped-dropped.ensures fed sketches.feeds.holds
+          ∙ ap (λ (s : sketch.Setting). any_mark s fed (setting.levels + 1)) sketches.feeds.shape
           ∙ ap (λ (b : Bool). b && mark) (sym (not_some _ _ true c.is_none.ensures w.if-is_none.true))
           ∙ all
       | else-is_none w ↦
@@ -39,10 +41,10 @@ returns-clause-value c =
     ] in
     view_is setting items merged
     (of_setting ∙ c.params_of.ensures)
-    (of_weight ∙ c.weight-weight.ensures.value ∙ sketches.holds.weight)
+    (of_weight ∙ c.weight-weight.ensures.value ∙ sketches.feeds.holds.weight ∙ weight_of-all fed items sketches.weigh)
     (of_counters parts shaped (counters_joined setting c.args.self.now items _ sketches c.in_ok-counters.ensures.value))
     (of_keys ∙ c.in_ok-keys.ensures.value items sketches)
-    (of_dropped ∙ dropped))
+    (of_dropped ∙ dropped ∙ drops_same setting fed items sketches.same))
     from.setting from.weight from.counters from.keys from.dropped
 
 pub returns-clause-merged : goal.returns-clause-merged

@@ -1,6 +1,6 @@
 use Rattle.std.proofs.Common.{ℕ, ◌+◌, List, length, refl, ◌∙◌, ap}
 use Rattle.std.proofs.lemmas.List.{length-replicate}
-use Rattle.mon_central.proofs.Packets.{noted_first, nothing_noted, live_first, weighed_first}
+use Rattle.mon_central.proofs.Packets.{noted_first, nothing_noted, weighed_first}
 use Rattle.mon_central.proofs.sketching.Sketched.new.Goals as goal
 use Rattle.mon_central.proofs.sketching.Sketched.new.Goals.{then-setting-eq0+in_ok-new, else-setting-eq0}
 
@@ -16,7 +16,7 @@ returns c = record {
   ];
   number = ap (λ (l : List ℕ). length l) c.in_ok-live.ensures ∙ length-replicate {A = ℕ} (c.from.result + 1) 0
       ∙ ap (λ (n : ℕ). n + 1) c.from.ensures;
-  live = live_first c.args.setting.now.seed _ _ c.in_ok-live.ensures;
+  live = weighed_first c.args.setting.now.seed _ _ c.in_ok-live.ensures;
   size = ap (λ (l : List ℕ). length l) c.in_ok-weights.ensures ∙ length-replicate {A = ℕ} (c.from-2.result + 1) 0
       ∙ ap (λ (n : ℕ). n + 1) c.from-2.ensures;
   weights = weighed_first c.args.setting.now.seed _ _ c.in_ok-weights.ensures;
