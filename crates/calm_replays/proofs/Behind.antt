@@ -71,7 +71,7 @@ answered_earlier answers refuses (entry ∷ later) earlier answered =
     (answered_before answers refuses entry (later ++ earlier) answered)
 
 -- a ticket that was fed nothing in the earlier part was fed what it was in the later one
-pieces-behind : (later earlier : List Entry) (t : ℕ) → pieces_in earlier t ≡ []
+pub pieces-behind : (later earlier : List Entry) (t : ℕ) → pieces_in earlier t ≡ []
     → pieces_in (later ++ earlier) t ≡ pieces_in later t
 unfolding pieces_in
 pieces-behind [] earlier t none = none

@@ -13,7 +13,7 @@ use Rattle.replay_supervisor.specs.Reading.{AreHonest}
 use Rattle.replay_supervisor.specs.Steps.{Plan, with_stops}
 
 -- what answers in one way answers in another
-honest_by : (work : Work) (answers also : List ℕ → List ℕ → Type 0)
+pub honest_by : (work : Work) (answers also : List ℕ → List ℕ → Type 0)
     → ((job bytes : List ℕ) → answers job bytes → also job bytes) → (log : List Entry) → AreHonest work answers log
     → AreHonest work also log
 honest_by work answers also by [] honest = tt
@@ -28,7 +28,7 @@ honest_by work answers also by (Died t ∷ before) honest = honest_by work answe
 honest_by work answers also by (Stopped t ∷ before) honest = honest_by work answers also by before honest
 
 -- an answer of a worker is that of an honest child
-answers_honestly : (job bytes : List ℕ) → AnswersBytes job bytes → AnswersHonestly job bytes
+pub answers_honestly : (job bytes : List ℕ) → AnswersBytes job bytes → AnswersHonestly job bytes
 answers_honestly job bytes answers = λ replay spelled. answers_it (Replay replay) job bytes spelled answers
 
 pub answered_honestly : (p : Plan) (log : List Entry) → AreAnswered AnswersBytes IsRefused log → IsHonest p log

@@ -1,5 +1,5 @@
 -- A measure whose children are answered in this process is calm and honest.
-use Rattle.std.proofs.Common.{◌≡◌, ◌⊎◌, List, [], ◌++◌, append-nil, Option, sym, ◌∙◌, ap, subst, inl, inr}
+use Rattle.std.proofs.Common.{◌≡◌, ◌⊎◌, List, [], ◌++◌, append-nil, Option, Some, sym, ◌∙◌, ap, subst, inl, inr}
 use Rattle.std.proofs.Math.Logic.{∥∥₁_elim, ∥∥₁_map₂}
 use Rattle.std.proofs.lemmas.Option.{same_Some}
 use Rattle.bound_certificate.specs.declared.outcome.Outcome.TheVariants.{Placed}
@@ -31,22 +31,24 @@ use Rattle.calm_replays.proofs.Replays.{honest_gathered}
 use Rattle.calm_replays.proofs.Spelled.{honest_told}
 use Rattle.calm_replays.specs.Inline.{IsInline}
 
-module _ (c : CrewCall) (entries : List Entry) (inline : IsInline c entries) where
-  -- what was appended is the whole log
-  whole_log : (part : List Entry) → c.crew_after.log ≡ told c.crew.log part → entries ≡ part
-  whole_log part grown =
-      same_Some entries (part ++ [])
-      (sym inline.told ∙ grown ∙ ap (λ (log : Option (List Entry)). told log part) inline.fresh)
-      ∙ append-nil part
+-- what was appended to an empty log is the whole log
+pub whole_log : (c : CrewCall) (entries part : List Entry) → c.crew.log ≡ Some [] → c.crew_after.log ≡ Some entries
+    → c.crew_after.log ≡ told c.crew.log part → entries ≡ part
+whole_log c entries part fresh is grown =
+    same_Some entries (part ++ []) (sym is ∙ grown ∙ ap (λ (log : Option (List Entry)). told log part) fresh)
+    ∙ append-nil part
 
-  module _ (part : List Entry) (grown : c.crew_after.log ≡ told c.crew.log part) where
+module _ (c : CrewCall) (entries : List Entry) (inline : IsInline c entries) (part : List Entry)
+    (grown : c.crew_after.log ≡ told c.crew.log part)
+  where
+    is_whole : entries ≡ part
+    is_whole = whole_log c entries part inline.fresh inline.told grown
+
     order_told : ∥ InOrder part ∥₁
-    order_told = subst (λ (log : List Entry). ∥ InOrder log ∥₁) (whole_log part grown) inline.order
+    order_told = subst (λ (log : List Entry). ∥ InOrder log ∥₁) is_whole inline.order
 
     answered_told : ∥ AreAnswered AnswersBytes IsRefused part ∥₁
-    answered_told =
-        subst (λ (log : List Entry). ∥ AreAnswered AnswersBytes IsRefused log ∥₁) (whole_log part grown)
-        inline.answered
+    answered_told = subst (λ (log : List Entry). ∥ AreAnswered AnswersBytes IsRefused log ∥₁) is_whole inline.answered
 
 module _ (form : Form) (contents : Contents) (setting : Setting) (solving : Solving) (c : CrewCall) (topo : Topo)
     (header : Header) (members : List Record) (part entries : List Entry) (inline : IsInline c entries)

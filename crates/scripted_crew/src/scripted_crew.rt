@@ -79,6 +79,13 @@ impl<A: Answerer + Drop> ScriptedCrew<A> {
     {
         self.log.entries()
     }
+
+    /// What the waits give, in order. It takes no memory.
+    pub fn acts(&self) -> &[Act]
+        ensures value { result.now ≡ self.now.acts.items }
+    {
+        self.acts.as_slice()
+    }
 }
 
 // A count of faults, one on.
