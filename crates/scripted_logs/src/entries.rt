@@ -38,7 +38,6 @@ pub fn answers_alone(crew: &ScriptedCrew<WorkerAnswer>) -> bool
 
 /// The log of the crew, the oldest entry first, where its acts are answers and deaths alone: it is honest by whatever plan
 /// it is read. `None` where an act gives bytes of its own. It takes no memory.
-#[tactic(auto, using(crate::proofs::Honest::honest_log))]
 pub fn honest_entries(crew: &ScriptedCrew<WorkerAnswer>) -> Option<&[LogEntry]>
     ensures value { IfSome result (λ log. Some (log_of log.now) ≡ (⟦<ScriptedCrew<WorkerAnswer> as Spawner>⟧.state crew.now).log) }
     ensures follows { IfSome result (λ log. (s : Script) × AnswersAlone s.deeds × FollowsScript s (log_of log.now)) }
