@@ -1,2 +1,3 @@
 mod Keys
 mod Members
+pub mod Topologies
