@@ -3,11 +3,7 @@
 //! - `made`: the topologies and traces that the rows speak of, and calls over them
 //! - `texts`: whole texts, and lines of them, of children that are answered in this process
 //! - `epochs`: the change from an epoch to the next, and heaps that drop a key
-//! - `scripted`: crews of children that fail and answer by a script, and calls over them
-//! - `failures`: children that die and repeat themselves, and calls of a crew that fail
-//! - `spoiled`: replies that are spoiled, and one that is untrue
 //! - `refused`: words, topologies and traces that are refused
-//! - `edges`: inputs and sinks that fail
 //! - `drills`: the made trace and topology, and the measure of them
 //!
 //! There is no code here but these tests: each stands on the public calls of `mon_command`.
@@ -16,18 +12,10 @@
 #[cfg(test)]
 mod drills;
 #[cfg(test)]
-mod edges;
-#[cfg(test)]
 mod epochs;
-#[cfg(test)]
-mod failures;
 #[cfg(test)]
 mod made;
 #[cfg(test)]
 mod refused;
-#[cfg(test)]
-mod scripted;
-#[cfg(test)]
-mod spoiled;
 #[cfg(test)]
 mod texts;

@@ -24,14 +24,6 @@ load = 5
 via = [\"s0\"]
 ";
 
-/// The same with a second switch, which no path goes by.
-pub(crate) const IDLE_SWITCH: &str = "switch = [
-    {name='s0',capacity=10,open=10,unit=1},
-    {name='s1',capacity=10,open=10,unit=1},
-]
-path = [{name='p0',from='10.0.0.0/16',to='10.1.0.0/16',load=5,via=['s0']}]
-";
-
 /// Two paths by one switch, of which the first takes what the second would.
 pub(crate) const WIDE_PATH: &str = "switch = [{name='s0',capacity=10,open=10,unit=1}]
 path = [

@@ -6,8 +6,8 @@ use crate::made::{
 use std::alloc::{AllocError, Global};
 use std::test::Fail;
 
-/// The measure of three packets of one key.
-pub(crate) const THREE_PACKETS: &str = "univmon measure 1
+// The measure of three packets of one key.
+const THREE_PACKETS: &str = "univmon measure 1
 packets 3 keyed 3 routed 3
 sketch seed 1 levels 12 rows 5 width 1024 heap 64 weight packets
 placement optimal cost 15 bound 15

@@ -1,8 +1,7 @@
 //! Children that die and repeat themselves, and calls of a crew that fail, by a script.
 
-use crate::made::{IDLE_SWITCH, ONE_SWITCH, run_over, three_packets};
+use crate::made::{IDLE_SWITCH, ONE_SWITCH, THREE_PACKETS, run_over, three_packets};
 use crate::scripted::{Failing, IDLE, NO_BAD, NONE, answers, crew_of, ended, given_up};
-use crate::texts::THREE_PACKETS;
 use crew::LogEntry;
 use mon_command::{Phase, Status};
 use replay_core::Bad;

@@ -1,7 +1,6 @@
 //! Inputs and sinks that fail.
 
-use crate::made::{ONE_SWITCH, files_of, three_packets, words_of};
-use crate::texts::THREE_PACKETS;
+use crate::made::{ONE_SWITCH, THREE_PACKETS, files_of, three_packets, words_of};
 use child_worker::WorkerAnswer;
 use inline_crew::InlineCrew;
 use mon_command::{Input, Status, run};
