@@ -19,9 +19,9 @@ wrong() {
 
 # Runs the program with so many kilobytes of address space; its status is left in $status.
 limited() {
-    limit=$1
+    room=$1
     shift
-    (ulimit -v "$limit" && exec "$program" "$@") > "$work/text" 2> "$work/error"
+    (ulimit -v "$room" && exec "$program" "$@") > "$work/text" 2> "$work/error"
     status=$?
 }
 
@@ -35,7 +35,8 @@ walk() {
     same=0
     memory=0
     silent=0
-    while limited "$limit" && [ "$status" -eq 2 ] || [ "$status" -eq 2 ] || [ "$status" -eq 13 ]; do
+    # Without words it ends with status 2, and where not even those find memory with 13.
+    while limited "$limit" && { [ "$status" -eq 2 ] || [ "$status" -eq 13 ]; }; do
         limited "$limit" "$@"
         if [ "$status" -eq 0 ] && cmp -s "$work/text" "$work/whole"; then
             same=$((same + 1))
