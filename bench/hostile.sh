@@ -21,7 +21,7 @@ esac
 [ "$1" = all ] || ways=$1
 work=$(mktemp -d)
 trap 'rm -rf "$work"' EXIT
-export UNIVMON="$program" HOSTILE_STATE="$work/state" HOSTILE_WAY
+export UNIVMON="$program" HOSTILE_STATE HOSTILE_WAY
 call="measure $here/../examples/topology.toml $here/../examples/trace.pcap"
 "$program" $call > "$work/inline" || exit 1
 wrong=0
@@ -36,8 +36,8 @@ for HOSTILE_WAY in $ways; do
             run=0
             while [ "$run" -lt "$runs" ]; do
                 run=$((run + 1))
-                rm -rf "$work/state"
-                mkdir "$work/state"
+                # A folder of its own for each run, since a child that was given up may still be writing.
+                HOSTILE_STATE=$(mktemp -d "$work/state.XXXXXX")
                 timeout 60 "$program" --worker "$worker" $call --window "$window" --restarts "$restarts" \
                     > "$work/text" 2> "$work/error"
                 status=$?
