@@ -4,10 +4,9 @@
 //! - `scripted`: crews of children that fail and answer by a script, and calls over them
 //! - `replies`: replies that are well formed and untrue; `spoiled`: those replies, spoiled in one place
 //! - `failures`: children that die and repeat themselves, and calls of a crew that fail
-//! - `pair`: a search and replays by a crew that answers only once two of its children were out together
 //! - `edges`: inputs and sinks that fail; `cuts`: a trace that is cut to each length
 //!
-//! There is no code here but these tests, over the public calls of `mon_command` and `replay_supervisor`.
+//! There is no code here but these tests, over the public calls of `mon_command`.
 #![tactic(auto)]
 
 #[cfg(test)]
@@ -18,8 +17,6 @@ mod edges;
 mod failures;
 #[cfg(test)]
 mod made;
-#[cfg(test)]
-mod pair;
 #[cfg(test)]
 mod replies;
 #[cfg(test)]

@@ -29,17 +29,6 @@ pub(crate) const IDLE_SWITCH: &str = "switch = [
 path = [{name='p0',from='10.0.0.0/16',to='10.1.0.0/16',load=5,via=['s0']}]
 ";
 
-/// Two paths of load 4, each by one of two switches: both cost 5 + 4 + 4 at `a`, 12 at `b`, and 5 + 12 + 4 at the two.
-pub(crate) const PRICED: &str = "switch = [
-    {name='a',capacity=10,open=5,unit=1},
-    {name='b',capacity=10,open=12,unit=0},
-]
-path = [
-    {name='p0',from='10.0.0.0/16',to='10.1.0.0/16',load=4,via=['a','b']},
-    {name='p1',from='10.2.0.0/16',to='10.3.0.0/16',load=4,via=['a','b']},
-]
-";
-
 /// The measure of three packets of one key.
 pub(crate) const THREE_PACKETS: &str = "univmon measure 1
 packets 3 keyed 3 routed 3

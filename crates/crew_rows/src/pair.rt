@@ -1,26 +1,21 @@
-//! A search, and replays, by two children that are out together.
-ghost use Rattle.std.specs.Prelude.{◌≡◌, ◌≤◌, [], ◌∷◌, ℕ, None, false};
+//! A search by two children that are out together.
+ghost use Rattle.std.specs.Prelude.{◌≡◌, ◌≤◌, ℕ, None, false};
 ghost use Rattle.mon_io.specs.Faults.{next_count};
 ghost use Rattle.crew.specs.Crew.{CrewState};
 ghost use Rattle.roster.specs.Roster.{is_out};
 
-use crate::made::PRICED;
-use bound_certificate::{Outcome, Placement};
+use crate::made::two_switches;
+use bound_certificate::Outcome;
 use child_worker::WorkerAnswer;
 use crew::{CrewStop, Event, LogEntry, Spawner};
-use flow_keys::{FlowKey, Routed};
-use hash_family::Params;
 use inline_crew::InlineCrew;
 use mon_io::Memory;
 use replay_core::Bad;
-use replay_jobs::ReplayJobs;
 use replay_supervisor::{Stop, supervise};
 use roster::Roster;
 use solve_jobs::SolveJobs;
-use sqlite_items::Items;
 use std::alloc::Global;
 use std::process::Abort;
-use topology::Topology;
 
 // Children of which the oldest dies at each wait until two of them were out together. From then on the children of
 // another crew answer. It tells no log, and counts each failed call and each death.
@@ -142,11 +137,6 @@ impl<S: Spawner + Drop> Spawner for Pair<S> {
     }
 }
 
-// The two paths, and the dear switch where both cost least.
-fn priced(rt: &impl Abort, alloc: Global) -> Topology {
-    Topology::from_toml(alloc, PRICED.as_bytes()).expect(rt, "a topology")
-}
-
 // It is a placement at these sites.
 fn assert_placed_at(rt: &impl Abort, outcome: Option<Outcome>, sites: &[u8]) {
     match outcome {
@@ -177,7 +167,7 @@ fn assert_one_stops(rt: &impl Abort, entries: &[LogEntry]) {
 #[test]
 fn two_children_search_together(rt: HostRuntime) {
     let alloc = rt.alloc();
-    let topology = priced(&rt, alloc);
+    let topology = two_switches(&rt, alloc);
     let mut jobs = SolveJobs::new(alloc, topology.problem(), 1024).expect(&rt, "ample memory");
     let mut pair = Pair::new(alloc, InlineCrew::new(alloc, WorkerAnswer::new(alloc)));
     assert_eq!(rt; supervise(alloc, &mut pair, &mut jobs, 2, 3), Ok(()));
@@ -189,7 +179,7 @@ fn two_children_search_together(rt: HostRuntime) {
 #[test]
 fn one_child_after_another_dies(rt: HostRuntime) {
     let alloc = rt.alloc();
-    let topology = priced(&rt, alloc);
+    let topology = two_switches(&rt, alloc);
     let mut jobs = SolveJobs::new(alloc, topology.problem(), 1024).expect(&rt, "ample memory");
     let mut pair = Pair::new(alloc, InlineCrew::new(alloc, WorkerAnswer::new(alloc)));
     let bad = Bad {
@@ -202,81 +192,4 @@ fn one_child_after_another_dies(rt: HostRuntime) {
     assert_eq!(rt; supervise(alloc, &mut pair, &mut jobs, 1, 3), Err(spent));
     assert_eq!(rt; pair.faults, 4);
     assert!(rt; jobs.outcome().is_none());
-}
-
-// The one path is given to the first of two switches.
-fn first_of_two(rt: &impl Abort, alloc: Global) -> Placement
-    ensures sites { result.sites ≡ 0 ∷ [] }
-{
-    let sites = Items::from_slice(alloc, &[0]).expect(rt, "room for a site");
-    Placement { sites }
-}
-
-// Two children were fed a share each. The first one replied, and a third one was fed the share of the second one, which
-// replied before it.
-fn assert_two_replay(rt: &impl Abort, entries: &[LogEntry]) {
-    match entries {
-        [
-            LogEntry::Started { ticket: 0 },
-            LogEntry::Fed { ticket: 0, .. },
-            LogEntry::Fed { ticket: 0, .. },
-            LogEntry::Fed { ticket: 0, .. },
-            LogEntry::Sealed { ticket: 0 },
-            LogEntry::Started { ticket: 1 },
-            LogEntry::Fed { ticket: 1, .. },
-            LogEntry::Fed { ticket: 1, .. },
-            LogEntry::Sealed { ticket: 1 },
-            LogEntry::Reply { ticket: 0, .. },
-            LogEntry::Started { ticket: 2 },
-            LogEntry::Fed { ticket: 2, .. },
-            LogEntry::Fed { ticket: 2, .. },
-            LogEntry::Sealed { ticket: 2 },
-            LogEntry::Reply { ticket: 1, .. },
-            LogEntry::Stopped { ticket: 2 },
-        ] => {}
-        _ => panic!(rt; "another log"),
-    }
-}
-
-// The key `10.0.0.1 1000 10.1.0.2 53 17`.
-const KEY: [u32; 11] = [
-    4,
-    167_772_161,
-    0,
-    0,
-    0,
-    167_837_698,
-    0,
-    0,
-    0,
-    65_536_053,
-    17,
-];
-
-#[test]
-fn two_children_replay_together(rt: HostRuntime) {
-    let alloc = rt.alloc();
-    let params = Params::new(12, 5, 1024, 64, 1).expect(&rt, "the numbers of a sketch");
-    let placement = first_of_two(&rt, alloc);
-    let key = FlowKey::from_words(KEY).expect(&rt, "a key");
-    let packet = Routed {
-        epoch: 0,
-        path: 0,
-        key,
-        weight: 1,
-    };
-    let routed = [packet, packet, packet];
-    let jobs = ReplayJobs::new(alloc, params, 1, 2, &placement, &routed);
-    let mut jobs = jobs.expect(&rt, "ample memory");
-    let mut pair = Pair::new(alloc, InlineCrew::new(alloc, WorkerAnswer::new(alloc)));
-    assert_eq!(rt; supervise(alloc, &mut pair, &mut jobs, 2, 3), Ok(()));
-    assert_eq!(rt; pair.faults, 0);
-    assert_two_replay(&rt, pair.crew.entries());
-    match jobs.merged().as_slice() {
-        [merged] => {
-            assert_eq!(rt; (merged.weight(), merged.dropped()), (3, false));
-            assert_eq!(rt; merged.keys(0), [key].as_slice());
-        }
-        _ => panic!(rt; "one epoch"),
-    }
 }
