@@ -12,8 +12,8 @@ use sqlite_items::Items;
 use std::alloc::Global;
 use std::process::Abort;
 
-// The one path is given to the first of two switches.
-fn first_of_two(rt: &impl Abort, alloc: Global) -> Placement
+/// The one path is given to the first of two switches.
+pub(crate) fn first_of_two(rt: &impl Abort, alloc: Global) -> Placement
     ensures sites { result.sites ≡ 0 ∷ [] }
 {
     let sites = Items::from_slice(alloc, &[0]).expect(rt, "room for a site");
