@@ -1,8 +1,9 @@
 #!/usr/bin/env python3
-"""Writes a classic pcap trace: make_trace.py FILE [PACKETS [FLOWS]].
+"""Writes a classic pcap trace: make_trace.py FILE [PACKETS [FLOWS [SHAPE]]].
 
 Each record has a head of 16 bytes and a captured frame of 42 bytes (Ethernet, IPv4, UDP). The flow of a packet is
-drawn with a skew, so that few flows have most of the packets.
+drawn by a shape: `skewed` (some flows have more packets than others), `heavy` (of which a few have some hundredths of
+all), `flat`, or `own` (packet N is of flow N).
 """
 import random
 import struct
@@ -22,15 +23,30 @@ def record(number, flow):
     return head + ETHERNET + IPV4 + source + destination + port + UDP_END
 
 
+def flow_of(shape, draw, flows, number):
+    if shape == "skewed":
+        return draw.randrange(flows) * draw.randrange(flows) // flows
+    if shape == "heavy":
+        return int(flows * draw.random() ** 3)
+    if shape == "flat":
+        return draw.randrange(flows)
+    return number
+
+
+def write_trace(name, packets, flows, shape):
+    draw = random.Random(1)
+    with open(name, "wb") as trace:
+        trace.write(HEADER)
+        for number in range(packets):
+            trace.write(record(number, flow_of(shape, draw, flows, number)))
+
+
 def main():
     packets = int(sys.argv[2]) if len(sys.argv) > 2 else 1048576
     flows = int(sys.argv[3]) if len(sys.argv) > 3 else 20000
-    draw = random.Random(1)
-    with open(sys.argv[1], "wb") as trace:
-        trace.write(HEADER)
-        for number in range(packets):
-            flow = draw.randrange(flows) * draw.randrange(flows) // flows
-            trace.write(record(number, flow))
+    shape = sys.argv[4] if len(sys.argv) > 4 else "skewed"
+    write_trace(sys.argv[1], packets, flows, shape)
 
 
-main()
+if __name__ == "__main__":
+    main()
