@@ -11,6 +11,7 @@ use crate::{FlowKey, Link};
 /// IPv6 packet (RFC 8200, section 3), lacks a byte of a header, or lacks the ports of TCP (RFC 9293)
 /// or UDP (RFC 768). An Ethernet frame has at most two tags (IEEE 802.1Q). It takes no memory.
 #[tactic(auto, unfolding(crate::specs::Frame::frame_key, crate::specs::Frame::network_of))]
+#[inline]
 pub fn key_of(link: Link, bytes: &[u8]) -> Option<FlowKey>
     ensures key { result ≡ frame_key link bytes.now }
 {
@@ -24,6 +25,7 @@ pub fn key_of(link: Link, bytes: &[u8]) -> Option<FlowKey>
 
 // IEEE 802.3: the header follows the type.
 #[tactic(auto, unfolding(crate::specs::Frame::ethernet_network))]
+#[inline]
 fn ethernet_key(frame: &[u8]) -> Option<FlowKey>
     ensures { result ≡ option_and_then network_key (ethernet_network frame.now) }
 {
@@ -33,6 +35,7 @@ fn ethernet_key(frame: &[u8]) -> Option<FlowKey>
 
 // IEEE 802.1Q: the place of the type, past at most two tags.
 #[tactic(auto, unfolding(crate::specs::Frame::type_place))]
+#[inline]
 fn type_place(frame: &[u8]) -> usize
     ensures place { result ≡ type_place frame.now }
     ensures bound { result ≤ 20 }
@@ -44,6 +47,7 @@ fn type_place(frame: &[u8]) -> usize
     if second { 20 } else { 16 }
 }
 
+#[inline]
 fn is_tag(number: u16) -> bool
     ensures { result ≡ is_tag number }
 {
@@ -51,6 +55,7 @@ fn is_tag(number: u16) -> bool
 }
 
 // The key behind a type field, whose header follows at another place.
+#[inline]
 fn key_behind(frame: &[u8], type_at: usize, header_at: usize) -> Option<FlowKey>
     requires { type_at + 2 ≤ header_at }
     ensures { result ≡ option_and_then network_key (network_behind frame.now type_at header_at) }
@@ -63,6 +68,7 @@ fn key_behind(frame: &[u8], type_at: usize, header_at: usize) -> Option<FlowKey>
 
 // The key of a packet by its type number.
 #[tactic(auto, unfolding(crate::specs::Frame::network_of_type))]
+#[inline]
 fn key_of_type(number: u16, packet: &[u8]) -> Option<FlowKey>
     ensures { result ≡ option_and_then network_key (network_of_type number packet.now) }
 {

@@ -2,14 +2,17 @@
 ghost use Rattle.std.specs.Prelude.{◌≡◌, ◌<◌, ◌^◌, [], ◌∷◌, slice_index, SomeIff, IsTrue, All};
 ghost use Rattle.std.specs.Cmp.Lexicographic.{slice_cmp};
 ghost use Rattle.std.specs.Ordering.{nat_cmp};
-ghost use Rattle.flow_keys.specs.Key.{is_valid, IsKey};
+ghost use Rattle.std.specs.Cmp.Rules.{hashing};
+ghost use Rattle.std.proofs.Common.{rules};
+ghost use Rattle.flow_keys.specs.Key.{is_valid, hashed_words, pair, IsKey};
 
 use std::cmp::Ordering;
+use std::hash::{Hash, Hasher};
 use std::marker::Model;
 
 /// A flow's key, seen as eleven words: family (4 or 6), source (4 words), destination (4 words),
 /// `source port * 65536 + destination port`, and protocol. Keys are ordered as their lists of words.
-#[derive(Clone, Copy, Debug, PartialEq, Eq, PartialOrd, Ord, Hash)]
+#[derive(Clone, Copy, Debug, PartialEq, Eq, PartialOrd, Ord)]
 pub struct FlowKey {
     words: [u32; 11],
 }
@@ -57,6 +60,7 @@ impl FlowKey {
     }
 
     /// The key of an IPv4 packet, by its addresses, both ports and its protocol.
+    #[inline]
     pub(crate) fn ipv4(source: u32, destination: u32, ports: u32, protocol: u8) -> FlowKey
         ensures { result ≡ 4 ∷ source ∷ 0 ∷ 0 ∷ 0 ∷ destination ∷ 0 ∷ 0 ∷ 0 ∷ ports ∷ protocol ∷ [] }
     {
@@ -81,6 +85,33 @@ impl FlowKey {
             words: [6, a, b, c, d, e, f, g, h, ports, protocol],
         }
     }
+}
+
+// The words that are 0 in every key of family 4 are left out there.
+impl Hash for FlowKey {
+    ghost hash_input = { hashed_words };
+
+    ghost respects_eq = { Prim.search (hashing, rules) };
+
+    #[tactic(auto, unfolding(crate::specs::Key::hashed_words))]
+    fn hash<H: Hasher>(&self, state: &mut H) {
+        let [family, a, b, c, d, e, f, g, h, ports, protocol] = self.words;
+        state.write_u64(pair(a, e));
+        state.write_u64(pair(protocol, ports));
+        if family != 4 {
+            state.write_u64(pair(b, f));
+            state.write_u64(pair(c, g));
+            state.write_u64(pair(d, h));
+        }
+    }
+}
+
+// Two words as one number.
+#[inline]
+fn pair(high: u32, low: u32) -> u64
+    ensures { result ≡ pair high low }
+{
+    4_294_967_296 * u64::from(high) + u64::from(low)
 }
 
 // Each word is below 2^32, as its type says.

@@ -2,6 +2,7 @@
 ghost use Rattle.std.specs.Prelude.{◌≡◌, ◌+◌, ◌≤◌, length};
 ghost use Rattle.flow_keys.specs.Numbers.{big_16, big_32};
 
+#[inline]
 pub(crate) fn big_16_at(bytes: &[u8], at: usize) -> u16
     requires { at + 2 ≤ length bytes.now }
     ensures { result ≡ big_16 bytes.now at }
@@ -9,6 +10,7 @@ pub(crate) fn big_16_at(bytes: &[u8], at: usize) -> u16
     u16::from_be_bytes([bytes[at], bytes[at + 1]])
 }
 
+#[inline]
 pub(crate) fn big_32_at(bytes: &[u8], at: usize) -> u32
     requires { at + 4 ≤ length bytes.now }
     ensures { result ≡ big_32 bytes.now at }
@@ -17,6 +19,7 @@ pub(crate) fn big_32_at(bytes: &[u8], at: usize) -> u32
 }
 
 // A byte past the end counts as 0.
+#[inline]
 pub(crate) fn big_16_or_less(bytes: &[u8], at: usize) -> u16
     requires { at ≤ 1000 }
     ensures { result ≡ big_16 bytes.now at }

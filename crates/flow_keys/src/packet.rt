@@ -7,6 +7,7 @@ use crate::FlowKey;
 use crate::numbers::{big_16_at, big_32_at};
 
 // RFC 9293, section 3.1, and RFC 768: both ports, where the protocol has them.
+#[inline]
 fn has_ports(protocol: u8) -> bool
     ensures { result ≡ has_ports protocol }
 {
@@ -14,6 +15,7 @@ fn has_ports(protocol: u8) -> bool
 }
 
 // Both ports behind a header, 0 for a protocol without ports, and None where they are missing.
+#[inline]
 fn ports_behind(packet: &[u8], protocol: u8, header_length: usize) -> Option<u32>
     requires { header_length ≤ 60 }
     ensures { result ≡ ports_behind packet.now protocol header_length }
@@ -29,6 +31,7 @@ fn ports_behind(packet: &[u8], protocol: u8, header_length: usize) -> Option<u32
 
 // RFC 791, section 3.1: the ports of a first fragment, and 0 of a later one.
 #[tactic(auto, unfolding(crate::specs::Frame::ipv4_ports))]
+#[inline]
 fn ipv4_ports(packet: &[u8]) -> Option<u32>
     requires { 20 ≤ length packet.now }
     ensures { result ≡ ipv4_ports packet.now }
@@ -42,6 +45,7 @@ fn ipv4_ports(packet: &[u8]) -> Option<u32>
 }
 
 // RFC 791, section 3.1: the packet begins with a whole header of version 4.
+#[inline]
 fn is_ipv4(packet: &[u8]) -> bool
     ensures { result ≡ is_ipv4 packet.now }
 {
@@ -50,6 +54,7 @@ fn is_ipv4(packet: &[u8]) -> bool
 
 /// The key of an IPv4 packet (RFC 791, section 3.1), None where it is none or its ports are missing.
 #[tactic(auto, unfolding(crate::specs::Frame::ipv4_key))]
+#[inline]
 pub(crate) fn ipv4_key(packet: &[u8]) -> Option<FlowKey>
     ensures { result ≡ ipv4_key packet.now }
 {
@@ -63,6 +68,7 @@ pub(crate) fn ipv4_key(packet: &[u8]) -> Option<FlowKey>
 }
 
 // RFC 8200, section 3: the packet begins with a whole header of version 6.
+#[inline]
 fn is_ipv6(packet: &[u8]) -> bool
     ensures { result ≡ is_ipv6 packet.now }
 {

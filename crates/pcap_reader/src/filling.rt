@@ -7,6 +7,7 @@ ghost use Rattle.pcap_reader.specs.Filling.{Filled};
 use mon_io::{Fault, Inputs};
 
 /// Fills `into` from the front, less of it only where the input ends, and gives how much.
+#[inline]
 pub(crate) fn fill<I: Inputs>(inputs: &mut I, into: &mut [u8]) -> Result<usize, Fault>
     ensures bytes { MatchResult result
         (λ n. Filled (I.state inputs.old).rest (I.state inputs.new).rest into.new n)

@@ -25,6 +25,7 @@ impl Order {
     }
 
     /// The number of 32 bits at a place.
+    #[inline]
     pub(crate) fn number_32(self, bytes: &[u8], at: usize) -> u32
         requires { at + 4 ≤ length bytes.now }
         ensures { result ≡ number_32 self bytes.now at }

@@ -76,6 +76,7 @@ impl PcapReader {
 
     /// The next packet, or None exactly at the end of the input at a record's place. It takes no memory.
     /// After a stop every later call answers the same stop, and reads nothing.
+    #[inline]
     pub fn next<I: Inputs>(&mut self, inputs: &mut I) -> Result<Option<Packet>, PcapStop>
         ensures advances { (contents : Option (List ℕ)) (members : List Record) →
             SoFar contents (I.state inputs.old).rest self.old members →
@@ -114,6 +115,7 @@ impl PcapReader {
 
     /// The captured bytes of the last packet that `next` gave, also at the end of the trace. There are
     /// none before the first packet and after a stop. It takes no memory.
+    #[inline]
     pub fn captured(&self) -> &[u8]
         ensures bytes { result.now ≡ captured_of self.now }
     {
@@ -121,6 +123,7 @@ impl PcapReader {
     }
 
     // One step of a reader that goes on.
+    #[inline]
     fn step<I: Inputs>(&mut self, inputs: &mut I) -> Result<Option<Packet>, PcapStop>
         ensures advances { (contents : Option (List ℕ)) (members : List Record) →
             SoFar contents (I.state inputs.old).rest self.old members →
@@ -154,6 +157,7 @@ impl PcapReader {
     }
 
     // The captured length that a head says, or the fault of what begins with it.
+    #[inline]
     fn captured_length(&self, head: &[u8]) -> Result<usize, PcapFault>
         requires { length head.now ≤ 16 }
         ensures ok { IfOk result
@@ -177,6 +181,7 @@ impl PcapReader {
     }
 
     // Goes past the record with this head, whose captured bytes are in the buffer.
+    #[inline]
     fn take(&mut self, head: &[u8], captured: usize) -> Packet
         requires head { length head.now ≡ 16 }
         requires fits { captured ≤ 262144 }
@@ -207,6 +212,7 @@ fn new_buffer(alloc: Global) -> Result<Vec<u8>, AllocError>
 }
 
 // Fills this many bytes at the front of a buffer.
+#[inline]
 fn fill_front<I: Inputs>(inputs: &mut I, buffer: &mut [u8], wanted: usize) -> Result<usize, Fault>
     requires { wanted ≤ length buffer.old }
     ensures bytes { MatchResult result
