@@ -32,9 +32,11 @@ pub(crate) fn last_ranked(entries: &[Entry]) -> usize
     ensures last { RanksLast entries.now result }
 {
     let mut last = 0;
+    let mut entry = entries[0];
     for place in 1..entries.len() {
-        if entries[last].ranks_before(&entries[place]) {
+        if entry.ranks_before(&entries[place]) {
             last = place;
+            entry = entries[place];
         }
     }
     last
