@@ -9,6 +9,7 @@ use mon_io::Memory;
 
 /// The key of these 44 bytes, eleven words with the low byte first; None exactly where the words are no valid key.
 /// Takes no memory.
+#[inline]
 pub fn key_at(field: &[u8]) -> Option<FlowKey>
     requires whole { length field.now ≡ key_size }
     ensures key { SomeIff result (IsTrue (is_valid (key_words field.now))) (key_words field.now) }
@@ -17,6 +18,7 @@ pub fn key_at(field: &[u8]) -> Option<FlowKey>
 }
 
 /// Appends the 44 bytes of a key. Unchanged on refusal. It takes memory.
+#[inline]
 pub fn put_key(key: &FlowKey, out: &mut Vec<u8>) -> Result<(), Memory>
     ensures written { OnOk result (out.new.items ≡ out.old.items ++ key_bytes key.now) }
     ensures refused { OnErr result (out.new.items ≡ out.old.items) }
@@ -27,6 +29,7 @@ pub fn put_key(key: &FlowKey, out: &mut Vec<u8>) -> Result<(), Memory>
     }
 }
 
+#[inline]
 #[tactic(auto, unfolding(crate::specs::Keys::key_bytes))]
 fn bytes_of(key: &FlowKey) -> [u8; 44]
     ensures { result ≡ key_bytes key.now }
@@ -36,6 +39,7 @@ fn bytes_of(key: &FlowKey) -> [u8; 44]
     bytes
 }
 
+#[inline]
 #[tactic(auto, unfolding(crate::specs::Keys::key_words))]
 fn key_words(field: &[u8]) -> [u32; 11]
     requires { length field.now ≡ key_size }
@@ -56,6 +60,7 @@ fn key_words(field: &[u8]) -> [u32; 11]
     ]
 }
 
+#[inline]
 #[tactic(auto, unfolding(crate::specs::Keys::word_at))]
 fn word_at(field: &[u8], at: usize) -> u32
     requires { at + 4 ≤ length field.now }

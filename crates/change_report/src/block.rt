@@ -10,7 +10,7 @@ use crate::LevelCount;
 use flow_keys::{FlowKey, key_text};
 use hash_family::Family;
 use mon_io::Memory;
-use recursive_sum::{G, g_sum};
+use recursive_sum::totals;
 use sketch_merge::Merged;
 use std::alloc::{AllocError, Global};
 
@@ -137,8 +137,9 @@ fn measures_text(alloc: Global, family: &Family, merged: &Merged) -> Result<Stri
         ≡ cardinality_line (recursive_sum family.now One merged.now)
         ++ total_line (recursive_sum family.now Value merged.now)) }
 {
-    let cardinality = cardinality_text(alloc, g_sum(family, merged, G::One))?;
-    let total = total_text(alloc, g_sum(family, merged, G::Value))?;
+    let totals = totals(family, merged);
+    let cardinality = cardinality_text(alloc, totals.cardinality)?;
+    let total = total_text(alloc, totals.weight)?;
     format!(in alloc; "{cardinality}{total}")
 }
 

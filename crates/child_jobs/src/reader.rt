@@ -135,6 +135,7 @@ impl JobReader {
     }
 
     // Takes bytes up to the end of a field.
+    #[inline]
     fn step(&mut self, piece: &[u8]) -> Result<usize, JobFault>
         requires some { 0 < length piece.now }
         requires going { stopped self.old ≡ None }
@@ -168,6 +169,7 @@ impl JobReader {
     }
 
     // Goes on at a place, with what the field before it completed.
+    #[inline]
     fn go_on(
         &mut self,
         place: Place,
@@ -257,6 +259,7 @@ fn first_place() -> Place
 }
 
 // Whether a field that leads from one place to another ends a frame.
+#[inline]
 fn ends_frame(from: &Place, to: &Place) -> bool
     ensures { result ≡ ends_frame from.now to.now }
 {
@@ -264,6 +267,7 @@ fn ends_frame(from: &Place, to: &Place) -> bool
 }
 
 // Keeps what was given behind what is kept, which has the room.
+#[inline]
 fn keep<T>(kept: &mut Vec<T>, given: Option<T>)
 where
     T: Drop,
@@ -284,6 +288,7 @@ fn check_bytes(bytes: &[u8])
 }
 
 // The bytes from a place on.
+#[inline]
 fn rest_of(bytes: &[u8], taken: usize) -> &[u8]
     requires { taken ≤ length bytes.now }
     ensures { result.now ≡ drop taken bytes.now }
@@ -292,6 +297,7 @@ fn rest_of(bytes: &[u8], taken: usize) -> &[u8]
 }
 
 // Puts a piece behind what is held.
+#[inline]
 fn put(held: &mut [u8], filled: usize, piece: &[u8])
     requires { filled + length piece.now ≤ length held.old }
     ensures size { length held.new ≡ length held.old }

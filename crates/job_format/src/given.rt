@@ -11,6 +11,7 @@ use bound_certificate::Site;
 use byteorder::{ByteOrder, LittleEndian};
 
 /// The item that a field completes, which the weight behind its key does; else None. It takes no memory.
+#[inline]
 #[tactic(auto, unfolding(crate::specs::Given::item_gives))]
 pub fn item_at(place: &Place, field: &[u8]) -> Option<Item>
     requires whole { length field.now ≡ place_size place.now }
@@ -31,6 +32,7 @@ pub fn item_at(place: &Place, field: &[u8]) -> Option<Item>
 }
 
 /// The site that a field completes; else None. It takes no memory.
+#[inline]
 #[tactic(auto, unfolding(crate::specs::Given::site_gives))]
 pub fn site_at(place: &Place, field: &[u8]) -> Option<Site>
     requires whole { length field.now ≡ place_size place.now }
@@ -57,6 +59,7 @@ fn site_of(field: &[u8]) -> Site
 }
 
 /// The need that a field completes, which the last number of its via does; else None. It takes no memory.
+#[inline]
 #[tactic(auto, unfolding(crate::specs::Given::need_gives))]
 pub fn need_at(place: &Place, field: &[u8]) -> Option<HeldNeed>
     requires whole { length field.now ≡ place_size place.now }

@@ -9,6 +9,7 @@ use crate::judge_solve::{judge_solve, solve_size};
 use crate::{JobFault, Place};
 
 /// How many bytes stand at a place, 1 to 44; behind a whole job 1, which is then too much. It takes no memory.
+#[inline]
 pub fn place_size(place: &Place) -> usize
     ensures size { result ≡ place_size place.now }
     ensures some { 0 < result }
@@ -42,6 +43,7 @@ pub fn place_size(place: &Place) -> usize
 
 /// What the field at a place is judged as: the place behind it, or its fault, which is `Magic` or `Version` in the
 /// first five bytes, `Extra` behind a whole job, and else `Shape`. It takes no memory.
+#[inline]
 #[tactic(auto, unfolding(crate::specs::Places::judge_place))]
 pub fn judge(place: &Place, field: &[u8]) -> Result<Place, JobFault>
     requires whole { length field.now ≡ place_size place.now }

@@ -17,6 +17,7 @@ const MOST_ITEMS: u32 = 1_048_576;
 const MOST_WEIGHT: u64 = 1 << 44;
 
 /// What the count of a frame is judged as.
+#[inline]
 pub(crate) fn judge_count(
     numbers: HeadNumbers,
     tally: Tally,
@@ -44,6 +45,7 @@ pub(crate) fn judge_count(
 }
 
 /// What the key of an item is judged as.
+#[inline]
 pub(crate) fn judge_key(
     numbers: HeadNumbers,
     tally: Tally,
@@ -65,6 +67,7 @@ pub(crate) fn judge_key(
 }
 
 /// What the weight of an item is judged as.
+#[inline]
 pub(crate) fn judge_weight(
     numbers: HeadNumbers,
     tally: Tally,

@@ -102,6 +102,21 @@ fn noted_keys(rt: HostRuntime) {
 }
 
 #[test]
+fn keys_noted_as_they_are_fed(rt: HostRuntime) {
+    let params = Params::new(3, 5, 1024, 4, 1).expect(&rt, "within the limits");
+    let mut levels = Levels::new(rt.alloc(), params).expect(&rt, "ample memory");
+    let mut all = AllKeys::new(rt.alloc(), 3).expect(&rt, "ample memory");
+    for n in [6, 3, 1, 6] {
+        assert!(rt; levels.weight() <= 1000);
+        let live = levels.feed_by(&key(&rt, n), 1);
+        all.note_live(&key(&rt, n), live).expect(&rt, "ample memory");
+    }
+    has(&rt, rt.alloc(), &all, 0, &[1, 3, 6]);
+    has(&rt, rt.alloc(), &all, 2, &[3, 6]);
+    has(&rt, rt.alloc(), &all, 3, &[3]);
+}
+
+#[test]
 fn two_thousand_noted_keys(rt: HostRuntime) {
     let family = Family::new(rt.alloc(), 2).expect(&rt, "ample memory");
     let mut all = AllKeys::new(rt.alloc(), 16).expect(&rt, "ample memory");

@@ -11,7 +11,7 @@ use Rattle.std.proofs.lemmas.List.FromFn.{map-range_with_len_more}
 use Rattle.std.proofs.lemmas.List.Sums.{sum_by-cons, sum_by_push, length-filter, count_by-le-length}
 use Rattle.hash_family.specs.Hash.{is_live}
 use Rattle.count_sketch.specs.Counters.{Item, counters_of}
-use Rattle.sketch_levels.specs.Items.{live_items, weight_of, distinct_keys}
+use Rattle.sketch_levels.specs.Items.{live_items, weight_of, distinct_keys, IsLiveAt}
 use Rattle.sketch_levels.specs.Levels.{Holds}
 use Rattle.sketch_levels.specs.Noted.{Noted, HoldsNotes, notes_of}
 use Rattle.sketch_levels.specs.Stands.{KeyTotal, ones, packets_of, weights_of}
@@ -129,8 +129,8 @@ pub fed_more : {setting : Setting} {old : Sketched} {fed counted : List Item} (n
     → new.family ≡ old.family → new.levels.setting ≡ old.levels.setting
     → (Holds old.levels fed → Holds new.levels (fed ++ record { key = key; weight = weight } ∷ []))
     → IsNoted setting (fed ++ record { key = key; weight = weight } ∷ []) new.all
-    → CountsLive old.family key packets old.live.items new.live.items
-    → CountsLive old.family key weight old.weights.items new.weights.items → new.number ≡ old.number + packets
+    → CountsLive setting.seed key packets old.live.items new.live.items
+    → CountsLive setting.seed key weight old.weights.items new.weights.items → new.number ≡ old.number + packets
     → IsFed setting new (fed ++ record { key = key; weight = weight } ∷ [])
     (counted ++ record { key = key; weight = packets } ∷ [])
 fed_more {setting} {old} {fed} {counted} new key packets weight feeds family shape holds noted counts weighs more =
@@ -141,11 +141,9 @@ fed_more {setting} {old} {fed} {counted} new key packets weight feeds family sha
       holds = holds feeds.holds;
       noted = noted;
       number = counts.size ∙ feeds.number;
-      live = weights_more setting.seed counted number old.live.items new.live.items feeds.live
-          (subst (λ (seed : ℕ). CountsLive seed key packets old.live.items new.live.items) feeds.family counts);
+      live = weights_more setting.seed counted number old.live.items new.live.items feeds.live counts;
       size = weighs.size ∙ feeds.size;
-      weights = weights_more setting.seed fed item old.weights.items new.weights.items feeds.weights
-          (subst (λ (seed : ℕ). CountsLive seed key weight old.weights.items new.weights.items) feeds.family weighs);
+      weights = weights_more setting.seed fed item old.weights.items new.weights.items feeds.weights weighs;
       number_is = omega (arith, more, feeds.number_is, sum_by_push (λ (x : Item). x.weight) counted number);
     }
 
@@ -203,6 +201,12 @@ pub noted_none : (setting : Setting) (items more : List Item) (all : Option Note
     → IsNoted setting items all → IsNoted setting more all
 noted_none setting items more None is noted = noted
 noted_none setting items more (Some all) is noted = absurd (cc)
+
+-- at how many levels a key is live, by the setting of what was fed
+pub live_at : {setting : Setting} {old : Sketched} {fed counted : List Item} (key : List ℕ) (levels : ℕ)
+    → IsFed setting old fed counted → IsLiveAt old.levels.setting.seed old.levels.setting.levels key levels
+    → IsLiveAt setting.seed setting.levels key levels
+live_at key levels feeds is = subst (λ (s : sketch.Setting). IsLiveAt s.seed s.levels key levels) feeds.shape is
 
 -- the counts of the levels, in their vector
 pub counts_in : {seed more : ℕ} {key before after : List ℕ} (v : Vec ℕ Global) → before ≡ v.items → length after ≡ v.len

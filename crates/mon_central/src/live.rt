@@ -1,14 +1,11 @@
 //! How many packets are live at each level, and what they weigh.
-ghost use Rattle.std.specs.Prelude.{◌≡◌, ◌+◌, ◌≤◌, ◌^◌, All, length};
+ghost use Rattle.std.specs.Prelude.{◌≡◌, ◌+◌, ◌≤◌, ◌^◌, ℕ, List, All, length};
+ghost use Rattle.sketch_levels.specs.Items.{IsLiveAt};
 ghost use Rattle.mon_central.specs.Live.{CountsLive};
 
-use flow_keys::FlowKey;
-use hash_family::Family;
-
-/// Counts so many more packets, and their weight, at each level where their key is live.
+/// Counts so many more packets, and their weight, at each level where their key is live: the first ones, so many.
 pub(crate) fn count_live(
-    family: &Family,
-    key: &FlowKey,
+    levels: u8,
     packets: u32,
     weight: u64,
     live: &mut [u32],
@@ -18,13 +15,12 @@ pub(crate) fn count_live(
     requires same { length weights.old ≡ length live.old }
     requires room { All (λ count. count + packets ≤ 4294967295) live.old }
     requires light { All (λ sum. sum + weight ≤ 2 ^ 44) weights.old }
-    ensures live { CountsLive family.now key.now packets live.old live.new }
-    ensures weights { CountsLive family.now key.now weight weights.old weights.new }
+    ensures live { (seed top : ℕ) (key : List ℕ) → length live.old ≡ top + 1 → IsLiveAt seed top key levels
+        → CountsLive seed key packets live.old live.new }
+    ensures weights { (seed top : ℕ) (key : List ℕ) → length live.old ≡ top + 1 → IsLiveAt seed top key levels
+        → CountsLive seed key weight weights.old weights.new }
 {
-    for level in 0..live.len() {
-        if level > 0 && !family.sample(level as u8, key) {
-            return;
-        }
+    for level in 0..usize::from(levels).min(live.len()) {
         live[level] += packets;
         weights[level] += weight;
     }

@@ -69,17 +69,16 @@ impl Sketched {
             (counted ++ record { key = key.now; weight = packets } ∷ [])) }
     {
         self.number += packets;
-        self.levels.feed_by(key, weight);
+        let levels = self.levels.feed_by(key, weight);
         count_live(
-            &self.family,
-            key,
+            levels,
             packets,
             weight,
             &mut self.live,
             &mut self.weights,
         );
         match &mut self.all {
-            Some(all) => all.note(&self.family, key),
+            Some(all) => all.note_live(key, levels),
             None => Ok(()),
         }
     }

@@ -2,6 +2,7 @@
 //!
 //! - `measure`: `G`, what a number counts in a sum
 //! - `sum`: `g_sum`, the recursive sum over the levels
+//! - `one_pass`: `totals`, the number of keys and the weight in one pass over the levels
 //! - `ranking`: `select`, the keys with the greatest absolute numbers
 //! - `heavy_keys`: `heavy`, the keys with the greatest estimates
 //! - `laws`: where the recursive sum is the plain sum over the keys
@@ -12,11 +13,13 @@
 mod heavy_keys;
 mod laws;
 mod measure;
+mod one_pass;
 mod ranking;
 mod sum;
 
 pub use heavy_keys::heavy;
 pub use laws::plain_sum;
-pub use measure::G;
+pub use measure::{G, Totals};
+pub use one_pass::totals;
 pub use ranking::select;
 pub use sum::g_sum;

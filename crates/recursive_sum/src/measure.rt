@@ -1,4 +1,4 @@
-//! What a number counts in a sum.
+//! What a number counts in a sum, and two sums together.
 ghost use Rattle.std.specs.Prelude.{◌≡◌, ◌<◌, ◌≤◌, ◌^◌, unsigned_abs};
 ghost use Rattle.recursive_sum.specs.Sum.{g_of};
 
@@ -15,6 +15,7 @@ pub enum G {
 
 impl G {
     // What the number counts. It is not the least i64.
+    #[inline]
     #[tactic(auto, unfolding(crate::specs::Sum::g_of))]
     pub(crate) fn of(self, number: i64) -> i128
         requires { unsigned_abs number < 2 ^ 63 }
@@ -27,4 +28,11 @@ impl G {
             G::Abs => i128::from(number.abs()),
         }
     }
+}
+
+/// The number of keys and the weight, by the recursive sum.
+#[derive(Clone, Copy, Debug, PartialEq, Eq)]
+pub struct Totals {
+    pub cardinality: i128,
+    pub weight: i128,
 }

@@ -28,7 +28,7 @@ pub fn g_sum(family: &Family, merged: &Merged, g: G) -> i128
 }
 
 // The highest level, of which there is one list of keys, as of each one below.
-fn highest_level(merged: &Merged) -> u8
+pub(crate) fn highest_level(merged: &Merged) -> u8
     ensures value { result ≡ merged.now.setting.levels }
     ensures high { result ≤ 16 }
     ensures lists { length merged.now.keys ≡ merged.now.setting.levels + 1 }
@@ -114,7 +114,7 @@ fn turned_counts(family: &Family, merged: &Merged, level: u8, g: G, key: &FlowKe
 
 // The number, with a sign of -1 where it is sampled.
 #[inline]
-fn turned(number: i128, is_sampled: bool) -> i128
+pub(crate) fn turned(number: i128, is_sampled: bool) -> i128
     requires { unsigned_abs number ≤ 2 ^ 45 }
     ensures value { result ≡ (if is_sampled then negsuc 0 else pos 1) *ℤ number }
     ensures size { unsigned_abs result ≡ unsigned_abs number }
@@ -123,7 +123,7 @@ fn turned(number: i128, is_sampled: bool) -> i128
 }
 
 #[inline]
-fn sum_and(sum: i128, number: i128) -> i128
+pub(crate) fn sum_and(sum: i128, number: i128) -> i128
     requires sum { unsigned_abs sum ≤ 2 ^ 110 }
     requires number { unsigned_abs number ≤ 2 ^ 45 }
     ensures value { result ≡ sum +ℤ number }
@@ -132,7 +132,7 @@ fn sum_and(sum: i128, number: i128) -> i128
 }
 
 #[inline]
-fn twice_and(sum: i128, own: i128) -> i128
+pub(crate) fn twice_and(sum: i128, own: i128) -> i128
     requires sum { unsigned_abs sum ≤ 2 ^ 125 }
     requires own { unsigned_abs own ≤ 2 ^ 110 }
     ensures value { result ≡ (pos 2 *ℤ sum) +ℤ own }

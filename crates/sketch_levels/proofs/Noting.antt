@@ -1,5 +1,5 @@
 -- Noted keys, and one key more.
-use Rattle.std.proofs.Common.{◌≡◌, ℕ, ◌≤◌, ◌<◌, Bool, true, false, inl, inr, List, [], ◌∷◌, ◌++◌, map, refl, sym, ◌∙◌}
+use Rattle.std.proofs.Common.{◌≡◌, ℕ, ◌+◌, ◌≤◌, ◌<◌, Bool, true, false, inl, inr, List, [], ◌∷◌, ◌++◌, map, refl, sym, ◌∙◌}
 use Rattle.std.proofs.Common.{ap, arith}
 use Rattle.std.specs.Prelude.{Some, None, nat_le}
 use Rattle.std.specs.List.{AllByRecursion, filter}
@@ -18,10 +18,11 @@ use Rattle.std.proofs.lemmas.Map.Lookups.{exact_bytes}
 use Rattle.hash_family.specs.Hash.{is_live}
 use Rattle.count_sketch.specs.Counters.{Item}
 use Rattle.topk_heap.proofs.Lists.{all_weaker}
-use Rattle.sketch_levels.specs.Items.{distinct, distinct_keys, live_items, with_key}
+use Rattle.sketch_levels.specs.Items.{distinct, distinct_keys, live_items, with_key, IsLiveAt}
 use Rattle.sketch_levels.specs.Noted.{HoldsNotes, Note, Noted, TakesKey, keys_at, live_keys, notes_of}
 use Rattle.flow_keys.proofs.KeyOrder.{by_order}
 use Rattle.sketch_levels.proofs.Distinct.{distinct-push}
+use Rattle.sketch_levels.proofs.Live.{live_at_0}
 
 abbrev Entries : Type 0
 Entries = List (List ℕ × ℕ)
@@ -156,27 +157,39 @@ noted-at level n (e ∷ rest) key high found sorted =
       | inr dead ↦ ap put (keys_at-dead level e rest dead) ∙ later ∙ sym (keys_at-dead level e rest dead)
     ])
 
--- at which levels a key is live, by the highest of them
-pub record IsHighest (seed top : ℕ) (key : List ℕ) (highest : ℕ) : Type 0 where
-  pub live : (level : ℕ) → level ≤ highest → is_live seed level key ≡ true
-  pub dead : (level : ℕ) → level ≤ top → highest < level → is_live seed level key ≡ false
-
-up_to : {seed top : ℕ} {key : List ℕ} {highest : ℕ} → IsHighest seed top key highest → (level : ℕ) → level ≤ top
+-- a level up to the highest where a key is live, and one above
+up_to : {seed top : ℕ} {key : List ℕ} {highest : ℕ} → IsLiveAt seed top key (highest + 1) → (level : ℕ) → level ≤ top
     → is_live seed level key ≡ true → level ≤ highest
 up_to {seed} {top} {key} {highest} is level within live = elim (cases_lt highest level) [
-  | inl above ↦ absurd (both_ways _ (is.dead level within above) live)
+  | inl above ↦ absurd (both_ways _ (is.dead level (omega (arith, above)) within) live)
   | inr below ↦ below
 ]
 
-above_it : {seed top : ℕ} {key : List ℕ} {highest : ℕ} → IsHighest seed top key highest → (level : ℕ)
+above_it : {seed top : ℕ} {key : List ℕ} {highest : ℕ} → IsLiveAt seed top key (highest + 1) → (level : ℕ)
     → is_live seed level key ≡ false → highest < level
 above_it {seed} {top} {key} {highest} is level dead = elim (cases_lt highest level) [
   | inl above ↦ above
-  | inr below ↦ absurd (both_ways _ dead (is.live level below))
+  | inr below ↦ absurd (both_ways _ dead (is.live level (omega (arith, below))))
 ]
 
+-- the highest of so many levels where a key is live, of which 0 is one
+pub live_up_to : (seed top : ℕ) (key : List ℕ) (number highest : ℕ)
+    → (number ≡ 0 → highest ≡ 0) → (0 < number → highest < number) → highest ≤ top
+    → (highest < top → number ≤ highest + 1)
+    → IsLiveAt seed top key number → IsLiveAt seed top key (highest + 1)
+live_up_to seed top key number highest none some within below is = record {
+  live = λ level under. elim (cases_lt level number) [
+    | inl inside ↦ is.live level inside
+    | inr past ↦ elim (cases_lt 0 number) [
+      | inl one ↦ absurd (omega (arith, some one, past, under))
+      | inr zero ↦ live_at_0 seed level key (omega (arith, none (omega (arith, zero)), under))
+    ]
+  ];
+  dead = λ level above high. is.dead level (omega (arith, below (omega (arith, above, high)), above)) high;
+}
+
 -- a key that was noted as far up
-pub takes_noted : (seed top : ℕ) (key : List ℕ) (highest n : ℕ) (entries : Entries) → IsHighest seed top key highest
+pub takes_noted : (seed top : ℕ) (key : List ℕ) (highest n : ℕ) (entries : Entries) → IsLiveAt seed top key (highest + 1)
     → IsStrictlySortedBy cmp (keys_of entries) → lookup (is_at (cmp key)) entries ≡ Some n → highest ≤ n
     → TakesKey seed top key entries entries
 takes_noted seed top key highest n entries is sorted found far = record {
@@ -186,7 +199,7 @@ takes_noted seed top key highest n entries is sorted found far = record {
 }
 
 -- a key that wasn't
-pub takes_inserted : (seed top : ℕ) (key : List ℕ) (highest : ℕ) (entries : Entries) → IsHighest seed top key highest
+pub takes_inserted : (seed top : ℕ) (key : List ℕ) (highest : ℕ) (entries : Entries) → IsLiveAt seed top key (highest + 1)
     → IsStrictlySortedBy cmp (keys_of entries) → ((n : ℕ) → lookup (is_at (cmp key)) entries ≡ Some n → n < highest)
     → TakesKey seed top key entries (insert_entry cmp entries key highest)
 takes_inserted seed top key highest entries is sorted less = record {

@@ -7,7 +7,7 @@ ghost use Rattle.std.specs.List.Sorted.{IsStrictlySortedBy};
 ghost use Rattle.std.specs.BTreeMap.{get, IsOrdered};
 ghost use Rattle.hash_family.specs.Hash.{is_live};
 ghost use Rattle.count_sketch.specs.Counters.{Item};
-ghost use Rattle.sketch_levels.specs.Items.{distinct_keys, live_items};
+ghost use Rattle.sketch_levels.specs.Items.{distinct_keys, live_items, IsLiveAt};
 ghost use Rattle.sketch_levels.specs.Noted.{Note, HoldsNotes, TakesKey, keys_at, live_keys, notes_of};
 
 use flow_keys::FlowKey;
@@ -59,7 +59,24 @@ impl AllKeys {
         ensures refused { OnErr result (self.new ≡ self.old) }
         ensures top { self.new.top ≡ self.old.top }
     {
-        note_in(&mut self.highest, self.top, family, key)
+        let highest = highest_live(family, self.top, key);
+        note_in(&mut self.highest, key, highest)
+    }
+
+    /// `note` of a key by the number of levels, from 0 on, at which it is live, as `Levels::feed_by` gives it.
+    pub fn note_live(&mut self, key: &FlowKey, live: u8) -> Result<(), Memory>
+        ensures notes { OnOk result ((seed : ℕ) (notes : List Note) → IsLiveAt seed self.old.top key.now live
+            → HoldsNotes self.old notes
+            → HoldsNotes self.new (notes ++ record { seed = seed; key = key.now } ∷ [])) }
+        ensures items { OnOk result ((seed : ℕ) (items : List Item) (weight : ℕ)
+            → IsLiveAt seed self.old.top key.now live
+            → HoldsNotes self.old (notes_of seed items)
+            → HoldsNotes self.new (notes_of seed (items ++ record { key = key.now; weight = weight } ∷ []))) }
+        ensures refused { OnErr result (self.new ≡ self.old) }
+        ensures top { self.new.top ≡ self.old.top }
+    {
+        let highest = live.saturating_sub(1).min(self.top);
+        note_in(&mut self.highest, key, highest)
     }
 
     /// The keys that were noted with a family by which they are live at a level, each once, in ascending order.
@@ -80,18 +97,12 @@ impl AllKeys {
     }
 }
 
-// Notes a key with its highest level. Nothing changes where memory for it is wanting.
-fn note_in(
-    highest: &mut BTreeMap<FlowKey, u8>,
-    top: u8,
-    family: &Family,
-    key: &FlowKey,
-) -> Result<(), Memory>
-    requires { top ≤ 16 }
-    ensures taken { OnOk result (TakesKey family.now top key.now highest.old.entries highest.new.entries) }
+// Notes a key with the highest level at which it is live. Nothing changes where memory for it is wanting.
+fn note_in(highest: &mut BTreeMap<FlowKey, u8>, key: &FlowKey, level: u8) -> Result<(), Memory>
+    ensures taken { OnOk result ((seed top : ℕ) → IsLiveAt seed top key.now (level + 1)
+        → TakesKey seed top key.now highest.old.entries highest.new.entries) }
     ensures refused { OnErr result (highest.new.entries ≡ highest.old.entries) }
 {
-    let level = highest_live(family, top, key);
     if is_noted(highest, key, level) {
         return Ok(());
     }
@@ -104,8 +115,7 @@ fn note_in(
 // The highest level, up to this one, at which the key is live.
 fn highest_live(family: &Family, top: u8, key: &FlowKey) -> u8
     requires { top ≤ 16 }
-    ensures live { (level : ℕ) → level ≤ result → is_live family.now level key.now ≡ true }
-    ensures dead { (level : ℕ) → level ≤ top → result < level → is_live family.now level key.now ≡ false }
+    ensures live { IsLiveAt family.now top key.now (result + 1) }
 {
     for level in 0..top {
         if !family.sample(level + 1, key) {

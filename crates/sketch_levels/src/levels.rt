@@ -7,7 +7,7 @@ ghost use Rattle.std.specs.List.Sorted.{IsStrictlySortedBy};
 ghost use Rattle.hash_family.specs.Hash.{is_live};
 ghost use Rattle.count_sketch.specs.Counters.{Item, AllUpTo, counters_of};
 ghost use Rattle.count_sketch.specs.Estimate.{estimate};
-ghost use Rattle.sketch_levels.specs.Items.{live_items};
+ghost use Rattle.sketch_levels.specs.Items.{live_items, IsLiveAt};
 ghost use Rattle.hash_family.specs.Setting.{setting_of};
 ghost use Rattle.sketch_levels.specs.Kept.{kept_keys, is_dropped, score};
 ghost use Rattle.sketch_levels.specs.Levels.{Layer, IsLayer, Takes, layer_of, level_at, heap_keys, IsView, Holds};
@@ -67,19 +67,21 @@ impl Levels {
         ensures setting { self.new.setting ≡ self.old.setting }
         ensures weight { self.new.weight ≡ self.old.weight + weight }
     {
-        self.feed_by(key, u64::from(weight));
+        let _live = self.feed_by(key, u64::from(weight));
     }
 
-    /// `feed` by a weight that need not fit 32 bits.
-    pub fn feed_by(&mut self, key: &FlowKey, weight: u64)
+    /// `feed` by a weight that need not fit 32 bits. It gives at how many levels, from 0 on, the key is live.
+    pub fn feed_by(&mut self, key: &FlowKey, weight: u64) -> u8
         requires light { self.old.weight + weight ≤ 2 ^ 44 }
         ensures list { (items : List Item)
             → Holds self.old items → Holds self.new (items ++ record { key = key.now; weight = weight } ∷ []) }
         ensures setting { self.new.setting ≡ self.old.setting }
         ensures weight { self.new.weight ≡ self.old.weight + weight }
+        ensures live { IsLiveAt self.old.setting.seed self.old.setting.levels key.now result }
     {
-        feed_levels(&mut self.levels, &self.family, key, weight);
+        let live = feed_levels(&mut self.levels, &self.family, key, weight);
         self.weight += weight;
+        live
     }
 
     /// The estimate of a key's weight at a level, from the counters of that level.
@@ -176,21 +178,23 @@ fn empty_levels(alloc: Global, params: &Params) -> Result<Vec<Level>, Memory>
     Ok(levels)
 }
 
-// Feeds the levels from 0 on while the key is live there.
-fn feed_levels(levels: &mut [Level], family: &Family, key: &FlowKey, weight: u64)
+// Feeds the levels from 0 on while the key is live there, and says how many these are.
+fn feed_levels(levels: &mut [Level], family: &Family, key: &FlowKey, weight: u64) -> u8
     requires number { length levels.old ≤ 17 }
     requires light { weight ≤ 2 ^ 44 }
     requires small { All (λ layer. AllUpTo (2 ^ 44) layer.sketch.counters) levels.old }
     ensures each { (level : ℕ) (d : Layer) → level < length levels.old
         → Takes family.now level (record { key = key.now; weight = weight })
         (slice_index_or levels.old level d) (slice_index_or levels.new level d) }
+    ensures live { (top : ℕ) → length levels.old ≡ top + 1 → IsLiveAt family.now top key.now result }
 {
     for number in 0..levels.len() {
         if !takes(family, number as u8, key) {
-            return;
+            return number as u8;
         }
         levels[number].feed(family, number as u8, key, weight);
     }
+    levels.len() as u8
 }
 
 // Whether a level takes a key that is live at each level below it.

@@ -3,5 +3,4 @@ use Rattle.mon_central.proofs.live.count_live.Given as goal
 
 abbrev pub invariant-loop-level : goal.invariant-loop-level
 invariant-loop-level l =
-    HasCounted l.family l.key l.packets l.initial.live l.live l.level
-    × HasCounted l.family l.key l.weight l.initial.weights l.weights l.level
+    HasCounted l.packets l.initial.live l.live l.level × HasCounted l.weight l.initial.weights l.weights l.level

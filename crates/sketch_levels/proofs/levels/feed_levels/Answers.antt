@@ -12,11 +12,21 @@ item c = record { key = c.args.key.now; weight = c.args.weight }
 
 pub returns-then-not-takes : goal.returns-then-not-takes
 returns-then-not-takes c = record {
+  live = λ top size. record {
+    live = λ level below. c.loop-number.invariant.live level (omega (arith, below));
+    dead = λ level above within. c.takes.ensures.dead c.if-not-takes.true level (omega (arith, above));
+  };
   each = λ level d within. elim (cases_lt level c.loop-number.number) [
     | inl below ↦ c.loop-number.invariant.fed level d below
     | inr above ↦ rw (c.loop-number.invariant.rest level d above)
         (takes_none _ _ _ _ (c.takes.ensures.dead c.if-not-takes.true level above))
   ];
+}
+
+pub returns-clause-live : goal.returns-clause-live
+returns-clause-live c = λ top size. record {
+  live = λ level below. c.loop-number.invariant.live level (omega (arith, below));
+  dead = λ level above within. absurd (omega (arith, above, within, size));
 }
 
 -- the level before the call

@@ -14,7 +14,8 @@ after c = record { top = c.self.inside.top; entries = c.note_in.new.highest.entr
 pub returns-clause-notes : goal.returns-clause-notes
 returns-clause-notes c = on_ok_weaker c.note_in.result
     (λ takes notes holds.
-    HoldsNotes-taken c.args.family.now c.args.key.now (before c) (after c) notes refl takes
+    HoldsNotes-taken c.args.family.now c.args.key.now (before c) (after c) notes refl
+    (takes c.args.family.now c.self.inside.top c.highest_live-highest.ensures.live)
     (subst (λ (noted : Noted). HoldsNotes noted notes) (sym c.self.view_is) holds))
     c.note_in.ensures.taken
 
@@ -23,6 +24,7 @@ returns-clause-items c = on_ok_weaker c.note_in.result
     (λ takes items weight holds.
     let notes = notes_of c.args.family.now items in
     rw (notes_of-push c.args.family.now items (record { key = c.args.key.now; weight = weight }))
-    (HoldsNotes-taken c.args.family.now c.args.key.now (before c) (after c) notes refl takes
+    (HoldsNotes-taken c.args.family.now c.args.key.now (before c) (after c) notes refl
+    (takes c.args.family.now c.self.inside.top c.highest_live-highest.ensures.live)
     (subst (λ (noted : Noted). HoldsNotes noted notes) (sym c.self.view_is) holds)))
     c.note_in.ensures.taken

@@ -1,8 +1,9 @@
-use Rattle.std.proofs.Common.{◌≡◌, ◌+◌, length, refl, sym, ◌∙◌, ap, subst, arith, rules}
+use Rattle.std.proofs.Common.{◌≡◌, ℕ, ◌+◌, length, refl, sym, ◌∙◌, ap, subst, arith, rules}
 use Rattle.std.proofs.lemmas.List.{with_items_is}
 use Rattle.std.specs.Vec.{with_items}
 use Rattle.count_sketch.specs.Counters.{Item}
 use Rattle.hash_family.specs.Setting.{setting_of}
+use Rattle.sketch_levels.specs.Items.{IsLiveAt}
 use Rattle.sketch_levels.specs.Levels.{Holds, View}
 use Rattle.sketch_levels.proofs.Holding.{Holds-fed, IsFed, IsView-fed}
 use Rattle.sketch_levels.proofs.levels.Levels.feed_by.Goals as goal
@@ -24,12 +25,12 @@ after c = record {
   setting = setting_of c.self.inside.params;
   weight = c.self.inside.weight + c.args.weight;
   levels =
-      (with_items c.self.inside.levels c.feed_levels.new.levels).items;
+      (with_items c.self.inside.levels c.feed_levels-live.new.levels).items;
 }
 
 levels_are : (c : goal.After-self-2-1)
-    → (with_items c.self.inside.levels c.feed_levels.new.levels).items ≡ c.feed_levels.new.levels
-levels_are c = with_items_is c.self.inside.levels c.feed_levels.new.levels (search rules)
+    → (with_items c.self.inside.levels c.feed_levels-live.new.levels).items ≡ c.feed_levels-live.new.levels
+levels_are c = with_items_is c.self.inside.levels c.feed_levels-live.new.levels (search rules)
 
 fed : (c : goal.After-self-2-1) → IsFed (item c) (before c) (after c)
 fed c = record {
@@ -37,7 +38,7 @@ fed c = record {
   weight = refl;
   number = ap length (levels_are c) ∙ omega (arith, ap length c.deref_mut.ensures.value);
   each = λ level d within. rw (levels_are c, ← c.self.invariant.0)
-      ((rw c.deref_mut.ensures.value at c.feed_levels.ensures).each level d within);
+      ((rw c.deref_mut.ensures.value at c.feed_levels-live.ensures).each level d within);
 }
 
 pub invariant_of-self : goal.invariant_of-self
@@ -52,3 +53,13 @@ pub returns-clause-list : goal.returns-clause-list
 returns-clause-list c = λ items holds.
     Holds-fed (item c) (before c) (after c) items (fed c)
     (subst (λ (view : View). Holds view items) (sym c.self.view_is) holds)
+
+pub returns-clause-live : goal.returns-clause-live
+returns-clause-live c =
+    let is : IsLiveAt c.self.inside.params.seed c.self.inside.params.levels c.args.key.now c.feed_levels-live.result =
+    subst (λ (seed : ℕ). IsLiveAt seed c.self.inside.params.levels c.args.key.now c.feed_levels-live.result)
+    c.self.invariant.0
+    (c.feed_levels-live.ensures.live c.self.inside.params.levels
+    (ap length c.deref_mut.ensures.value ∙ c.self.invariant.1.number)) in
+    subst (λ (view : View). IsLiveAt view.setting.seed view.setting.levels c.args.key.now c.feed_levels-live.result)
+    c.self.view_is is
