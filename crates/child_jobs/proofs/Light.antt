@@ -1,5 +1,5 @@
 -- The items that a reader has given out are within the limits of a job.
-use Rattle.std.proofs.Common.{◌≡◌, ◌≤◌, ℕ, ◌+◌, List, [], ◌∷◌, ◌++◌, length, Option, None, Some, take, refl, sym, ◌∙◌, ap, arith, length-append}
+use Rattle.std.proofs.Common.{◌≡◌, ◌≤◌, ℕ, ◌+◌, List, [], ◌∷◌, ◌++◌, length, None, take, refl, sym, ◌∙◌, ap, arith, length-append}
 use Rattle.std.proofs.lemmas.List.Sums.{sum_by-append}
 use Rattle.job_format.specs.Job.{item_limit, weight_limit, weight_of}
 use Rattle.job_format.specs.Given.{items_in}
@@ -7,7 +7,7 @@ use Rattle.job_format.specs.declared.item.Item.{Item}
 use Rattle.job_format.specs.declared.place.Place.{Place}
 use Rattle.job_format.specs.declared.place.Place.TheVariants as places
 use Rattle.job_format.proofs.Tallies.{Counts, counted, within_limits}
-use Rattle.child_jobs.specs.Heads.{Head, head_at}
+use Rattle.child_jobs.specs.Heads.{head_at}
 use Rattle.child_jobs.specs.Reader.{HasTaken, kept, known_head}
 use Rattle.child_jobs.specs.declared.reader.JobReader.{JobReader}
 use Rattle.child_jobs.proofs.Moves.{at_state}

@@ -1,5 +1,5 @@
 -- A reader's steps.
-use Rattle.std.proofs.Common.{◌≡◌, ◌<◌, ◌≤◌, ℕ, ◌+◌, false, Bool, if◌then◌else◌, List, [], ◌++◌, length, map, take, drop, Option, None, Result, refl, sym, ◌∙◌, ap, subst, arith, append_assoc, append-nil, take-append-drop, length-take-le}
+use Rattle.std.proofs.Common.{◌≡◌, ◌<◌, ◌≤◌, ℕ, ◌+◌, false, Bool, if◌then◌else◌, List, [], ◌++◌, length, map, take, drop, Option, None, Result, Err, refl, sym, ◌∙◌, ap, subst, arith, append_assoc, append-nil, take-append-drop, length-take-le}
 use Rattle.std.specs.Option.{option_to_list}
 use Rattle.std.proofs.lemmas.List.{drop-take, map-append, take-take}
 use Rattle.bound_certificate.specs.declared.need.Need.{Need}
@@ -15,7 +15,7 @@ use Rattle.job_format.specs.declared.held_need.HeldNeed.{HeldNeed}
 use Rattle.job_format.specs.declared.item.Item.{Item}
 use Rattle.job_format.specs.declared.place.Place.{Place}
 use Rattle.child_jobs.specs.Heads.{head_at}
-use Rattle.child_jobs.specs.Reader.{Begins, Moves, kept, needs_held, state, state_of, stopped}
+use Rattle.child_jobs.specs.Reader.{Begins, Moves, TakesField, kept, needs_held, state, state_of, stopped}
 use Rattle.child_jobs.specs.Rooms.{Completes}
 use Rattle.child_jobs.specs.declared.reader.JobReader.{JobReader}
 use Rattle.child_jobs.proofs.Heads.{head_stays}
@@ -31,6 +31,20 @@ put_bytes : {held new piece : List ℕ} {filled count : ℕ} → IsPut held new 
 put_bytes {held} {new} {piece} {filled} {count} put =
     subst (λ (n : ℕ). take (filled + n) new ≡ take filled held ++ take count piece)
     (length-take-le count piece put.fits) put.bytes
+
+-- where nothing is held, a piece stands as if it was put
+pub whole_put : (held piece : List ℕ) {filled count : ℕ} → filled ≡ 0 → count ≤ length piece
+    → IsPut held piece piece filled count
+whole_put held piece {filled} {count} none fits =
+    let size : filled + length (take count piece) ≡ count =
+    omega (arith, none, length-take-le count piece fits) in
+    record {
+      within = omega (arith, none);
+      fits = fits;
+      bytes =
+          ap (λ (n : ℕ). take n piece) size
+          ∙ ap (λ (n : ℕ). take n held ++ take count piece) (sym none);
+    }
 
 -- a reader that goes on is at its place
 pub at_state : (r : JobReader) → stopped r ≡ None → state r ≡ At r.place (take r.filled r.held)
@@ -90,14 +104,14 @@ module _ (old : JobReader) {now piece : List ℕ} {count : ℕ} (going : stopped
   full_part : length (take old.filled old.held) + length (take count piece) ≡ place_size old.place
   full_part = omega (arith, full, length-take-le count piece put.fits, length-take-le old.filled old.held put.within)
 
-  pub field_leads : reached job_format (state old) (take count piece) ≡ judged
+  field_leads : reached job_format (state old) (take count piece) ≡ judged
       (judge_place old.place (take (old.filled + count) now))
   field_leads =
       ap (λ (r : Reached Place JobFault). reached job_format r (take count piece)) (at_state old going)
       ∙ reached-field job_format old.place (take old.filled old.held) (take count piece) some_part full_part
       ∙ ap (λ (l : List ℕ). judged (judge_place old.place l)) (sym (put_bytes put))
 
-  pub field_gives : {X : Type 0} (gives : Place → List ℕ → List X)
+  field_gives : {X : Type 0} (gives : Place → List ℕ → List X)
       → yields job_format gives (state old) (take count piece) ≡ gives old.place (take (old.filled + count) now)
   field_gives {X} gives =
       ap (λ (r : Reached Place JobFault). yields job_format gives r (take count piece)) (at_state old going)
@@ -119,41 +133,57 @@ pub state_start : (r : JobReader) (place : Place) → stopped r ≡ None → r.p
 state_start r place going is none =
     at_state r going ∙ ap (λ (n : ℕ). At r.place (take n r.held)) none ∙ ap (λ (p : Place). At p []) is
 
-pub field_moves : (old new : JobReader) {now piece : List ℕ} {count : ℕ} (place : Place) (item : Option Item)
-    (site : Option Site) (need : Option HeldNeed) → stopped old ≡ None → old.ended ≡ false
-    → IsPut old.held now piece old.filled count → 0 < count → old.filled + count ≡ place_size old.place
-    → Completes old.place place (take (old.filled + count) now) item site need → Goes old new place item site need
-    → Moves old new (take count piece)
-field_moves old new {now} {piece} {count} place item site need going open_yet put some full completes goes = record {
+pub field_taken : (old new : JobReader) {field : List ℕ} (place : Place) (item : Option Item) (site : Option Site)
+    (need : Option HeldNeed) → stopped old ≡ None → Completes old.place place field item site need
+    → Goes old new place item site need → TakesField old new field
+field_taken old new {field} place item site need going completes goes = record {
   going = goes.stop ∙ going;
   leads =
       state_start new place (goes.stop ∙ going) goes.at goes.filled
-      ∙ ap (λ (r : Result Place JobFault). judged r) (sym completes.judged)
-      ∙ sym (field_leads old going put some full);
-  items =
-      goes.items
-      ∙ ap (λ (l : List Item). l ++ option_to_list item) (sym (kept_all old open_yet))
-      ∙ ap (λ (l : List Item). kept old ++ l)
-      (completes.as_item ∙ sym (field_gives old going put some full item_gives));
-  sites = goes.sites ∙ ap (λ (l : List Site). old.sites.items ++ l)
-      (completes.as_site ∙ sym (field_gives old going put some full site_gives));
+      ∙ ap (λ (r : Result Place JobFault). judged r) (sym completes.judged);
+  items = goes.items ∙ ap (λ (l : List Item). old.frame.items ++ l) completes.as_item;
+  sites = goes.sites ∙ ap (λ (l : List Site). old.sites.items ++ l) completes.as_site;
   needs =
       ap (λ (l : List HeldNeed). map need_of l) goes.needs
       ∙ map-append need_of old.needs.items (option_to_list need)
-      ∙ ap (λ (l : List Need). needs_held old ++ l)
-      (completes.as_need ∙ sym (field_gives old going put some full need_gives));
-  head = λ head here. ap (λ (p : Place). head_at p) goes.at
-      ∙ head_stays old.place place (take (old.filled + count) now) completes.judged head here;
+      ∙ ap (λ (l : List Need). needs_held old ++ l) completes.as_need;
+  head = λ head here. ap (λ (p : Place). head_at p) goes.at ∙ head_stays old.place place field completes.judged head here;
+}
+
+pub field_moves : (old new : JobReader) {now piece : List ℕ} {count : ℕ} → stopped old ≡ None → old.ended ≡ false
+    → IsPut old.held now piece old.filled count → 0 < count → old.filled + count ≡ place_size old.place
+    → TakesField old new (take (old.filled + count) now) → Moves old new (take count piece)
+field_moves old new {now} {piece} {count} going open_yet put some full takes = record {
+  going = takes.going;
+  leads = takes.leads ∙ sym (field_leads old going put some full);
+  items =
+      takes.items
+      ∙ ap (λ (l : List Item). l ++ item_gives old.place (take (old.filled + count) now)) (sym (kept_all old open_yet))
+      ∙ ap (λ (l : List Item). kept old ++ l) (sym (field_gives old going put some full item_gives));
+  sites = takes.sites
+      ∙ ap (λ (l : List Site). old.sites.items ++ l) (sym (field_gives old going put some full site_gives));
+  needs = takes.needs
+      ∙ ap (λ (l : List Need). needs_held old ++ l) (sym (field_gives old going put some full need_gives));
+  head = takes.head;
 }
 
 -- a fault within the front is one of the whole
-pub broken_whole : (now : Reached Place JobFault) (piece : List ℕ) (count : ℕ) (fault : JobFault)
+broken_whole : (now : Reached Place JobFault) (piece : List ℕ) (count : ℕ) (fault : JobFault)
     → reached job_format now (take count piece) ≡ Broken fault → reached job_format now piece ≡ Broken fault
 broken_whole now piece count fault is =
     ap (λ (l : List ℕ). reached job_format now l) (sym (take-append-drop count piece))
     ∙ reached-append job_format now (take count piece) (drop count piece)
     ∙ ap (λ (r : Reached Place JobFault). reached job_format r (drop count piece)) is
     ∙ reached-broken job_format fault (drop count piece)
+
+-- that of a field is one of the piece
+pub field_breaks : (old : JobReader) {now piece : List ℕ} {count : ℕ} (fault : JobFault) → stopped old ≡ None
+    → IsPut old.held now piece old.filled count → 0 < count → old.filled + count ≡ place_size old.place
+    → judge_place old.place (take (old.filled + count) now) ≡ Err fault
+    → reached job_format (state old) piece ≡ Broken fault
+field_breaks old {now} {piece} {count} fault going put some full is =
+    broken_whole (state old) piece count fault
+    (field_leads old going put some full ∙ ap (λ (r : Result Place JobFault). judged r) is)
 
 -- a fault behind the front is one of the whole
 pub broken_rest : (now middle : Reached Place JobFault) (piece : List ℕ) (taken : ℕ) (fault : JobFault)

@@ -1,10 +1,10 @@
 -- Which bytes a reader of a job has taken, and which items it has given out.
 use Rattle.std.specs.Prelude.{◌≡◌, ◌<◌, ℕ, List, [], ◌++◌, map, take, Option, None, Some, All, if◌then◌else◌}
 use Rattle.bound_certificate.specs.declared.need.Need.{Need}
-use Rattle.byte_format.specs.Format.{Reached, At, Broken, reached, yields}
+use Rattle.byte_format.specs.Format.{Reached, At, Broken, judged, reached, yields}
 use Rattle.job_format.specs.Given.{item_gives, items_in, need_gives, needs_in, site_gives, sites_in}
 use Rattle.job_format.specs.Held.{need_of}
-use Rattle.job_format.specs.Places.{job_format, job_start}
+use Rattle.job_format.specs.Places.{job_format, job_start, judge_place}
 use Rattle.job_format.specs.declared.fault.JobFault.{JobFault}
 use Rattle.job_format.specs.declared.item.Item.{Item}
 use Rattle.job_format.specs.declared.place.Place.{Place}
@@ -54,6 +54,15 @@ pub record Moves (old new : JobReader) (bytes : List ℕ) : Type 0 where
   pub items : new.frame.items ≡ kept old ++ yields job_format item_gives (state old) bytes
   pub sites : new.sites.items ≡ old.sites.items ++ yields job_format site_gives (state old) bytes
   pub needs : needs_held new ≡ needs_held old ++ yields job_format need_gives (state old) bytes
+  pub head : (head : Head) → known_head old ≡ Some head → known_head new ≡ Some head
+
+-- it has taken the whole field that stands next
+pub record TakesField (old new : JobReader) (field : List ℕ) : Type 0 where
+  pub going : stopped new ≡ None
+  pub leads : state new ≡ judged (judge_place old.place field)
+  pub items : new.frame.items ≡ old.frame.items ++ item_gives old.place field
+  pub sites : new.sites.items ≡ old.sites.items ++ site_gives old.place field
+  pub needs : needs_held new ≡ needs_held old ++ need_gives old.place field
   pub head : (head : Head) → known_head old ≡ Some head → known_head new ≡ Some head
 
 -- it is the same but for a frame that was lent

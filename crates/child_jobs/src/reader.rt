@@ -1,5 +1,5 @@
 //! A job, read in pieces.
-ghost use Rattle.std.specs.Prelude.{◌≡◌, ◌≤◌, ◌<◌, ◌⊎◌, ◌+◌, ◌++◌, [], None, Some, Ok, Err, List, ℕ, true, false, length, take, drop, map, IfOk, IfErr, IsErr, All, vec_capacity};
+ghost use Rattle.std.specs.Prelude.{◌≡◌, ◌≤◌, ◌<◌, ◌⊎◌, ◌+◌, ◌++◌, [], None, Some, Ok, Err, List, ℕ, true, false, length, take, drop, map, IfOk, IfErr, OnOk, IsErr, All, vec_capacity};
 ghost use Rattle.std.specs.Option.{option_map, option_to_list};
 ghost use Rattle.byte_format.specs.Format.{Broken, reached};
 ghost use Rattle.job_format.specs.Given.{item_gives, need_gives, site_gives};
@@ -49,7 +49,7 @@ pub struct JobReader {
 }
 
 impl JobReader {
-    ghost use Rattle.child_jobs.specs.Reader.{Begins, HasTaken, Moves, known_head, lent, state, stopped};
+    ghost use Rattle.child_jobs.specs.Reader.{Begins, HasTaken, Moves, TakesField, known_head, lent, state, stopped};
 
     /// A reader that has taken no byte. It takes the memory that reading wants.
     pub fn new(alloc: Global) -> Result<JobReader, Memory>
@@ -134,7 +134,7 @@ impl JobReader {
         Ok(taken)
     }
 
-    // Takes bytes up to the end of a field.
+    // Takes bytes up to the end of a field, which is judged where it stands if it is whole in the piece.
     #[inline]
     fn step(&mut self, piece: &[u8]) -> Result<usize, JobFault>
         requires some { 0 < length piece.now }
@@ -146,20 +146,62 @@ impl JobReader {
         ensures breach { IfErr result (λ fault. reached job_format (state self.old) piece.now ≡ Broken fault) }
         ensures stops { IfErr result (λ fault. stopped self.new ≡ Some fault) }
     {
+        if self.filled > 0 {
+            return self.take_part(piece);
+        }
+        let size = place_size(&self.place);
+        if piece.len() < size {
+            return self.take_part(piece);
+        }
+        match self.take_field(&piece[..size]) {
+            Ok(()) => Ok(size),
+            Err(fault) => Err(fault),
+        }
+    }
+
+    // Takes bytes up to the end of a field, behind those that are held.
+    fn take_part(&mut self, piece: &[u8]) -> Result<usize, JobFault>
+        requires some { 0 < length piece.now }
+        requires going { stopped self.old ≡ None }
+        requires within { self.old.ended ≡ false }
+        ensures moves { IfOk result (λ n. Moves self.old self.new (take n piece.now)) }
+        ensures some { IfOk result (λ n. 0 < n) }
+        ensures bound { IfOk result (λ n. n ≤ length piece.now) }
+        ensures breach { IfErr result (λ fault. reached job_format (state self.old) piece.now ≡ Broken fault) }
+        ensures stops { IfErr result (λ fault. stopped self.new ≡ Some fault) }
+    {
         let size = place_size(&self.place);
         let count = (size - self.filled).min(piece.len());
-        put(&mut self.held, self.filled, &piece[..count]);
+        let mut held = self.held;
+        put(&mut held, self.filled, &piece[..count]);
         if self.filled + count < size {
+            self.held = held;
             self.filled += count;
             return Ok(count);
         }
-        match judge(&self.place, &self.held[..size]) {
+        match self.take_field(&held[..size]) {
+            Ok(()) => Ok(count),
+            Err(fault) => Err(fault),
+        }
+    }
+
+    // Takes a whole field, or stops at its fault.
+    #[inline]
+    fn take_field(&mut self, field: &[u8]) -> Result<(), JobFault>
+        requires whole { length field.now ≡ place_size self.old.place }
+        requires going { stopped self.old ≡ None }
+        requires within { self.old.ended ≡ false }
+        ensures takes { OnOk result (TakesField self.old self.new field.now) }
+        ensures breach { IfErr result (λ fault. judge_place self.old.place field.now ≡ Err fault) }
+        ensures stops { IfErr result (λ fault. stopped self.new ≡ Some fault) }
+    {
+        match judge(&self.place, field) {
             Ok(place) => {
-                let item = item_at(&self.place, &self.held[..size]);
-                let site = site_at(&self.place, &self.held[..size]);
-                let need = need_at(&self.place, &self.held[..size]);
+                let item = item_at(&self.place, field);
+                let site = site_at(&self.place, field);
+                let need = need_at(&self.place, field);
                 self.go_on(place, item, site, need);
-                Ok(count)
+                Ok(())
             }
             Err(fault) => {
                 self.stop = Some(fault);

@@ -1,4 +1,4 @@
-use Rattle.std.proofs.Common.{ℕ, List, ◌<◌, get_or}
+use Rattle.std.proofs.Common.{ℕ, ◌<◌, get_or}
 use Rattle.bound_certificate.specs.declared.need.Need.{Need}
 use Rattle.job_format.specs.Job.{IsLoad}
 use Rattle.child_jobs.proofs.write.check_needs.Given as goal

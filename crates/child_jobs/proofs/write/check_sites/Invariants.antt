@@ -1,4 +1,4 @@
-use Rattle.std.proofs.Common.{ℕ, List, ◌<◌, get_or}
+use Rattle.std.proofs.Common.{ℕ, ◌<◌, get_or}
 use Rattle.bound_certificate.specs.declared.site.Site.{Site}
 use Rattle.job_format.specs.Job.{IsSite}
 use Rattle.child_jobs.proofs.write.check_sites.Given as goal
