@@ -109,7 +109,8 @@ fn keys_noted_as_they_are_fed(rt: HostRuntime) {
     for n in [6, 3, 1, 6] {
         assert!(rt; levels.weight() <= 1000);
         let live = levels.feed_by(&key(&rt, n), 1);
-        all.note_live(&key(&rt, n), live).expect(&rt, "ample memory");
+        all.note_live(&key(&rt, n), live)
+            .expect(&rt, "ample memory");
     }
     has(&rt, rt.alloc(), &all, 0, &[1, 3, 6]);
     has(&rt, rt.alloc(), &all, 2, &[3, 6]);

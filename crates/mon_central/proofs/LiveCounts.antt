@@ -21,8 +21,12 @@ all_counted seed top key levels more old now level counting size under all is = 
         (is.live k (omega (arith, below, under))))
     | inr above ↦ elim (cases_lt level levels) [
       | inl short ↦ absurd (omega (arith, all short, above, within))
-      | inr whole ↦ omega (arith, counting.rest k above, ap (λ (b : Bool). cond {A = ℕ} b more 0)
-          (is.dead k (omega (arith, above, whole)) (omega (arith, within, size))))
+      | inr whole ↦ omega (
+        arith,
+        counting.rest k above,
+        ap (λ (b : Bool). cond {A = ℕ} b more 0)
+            (is.dead k (omega (arith, above, whole)) (omega (arith, within, size))),
+      )
     ]
   ];
 }

@@ -70,13 +70,7 @@ impl Sketched {
     {
         self.number += packets;
         let levels = self.levels.feed_by(key, weight);
-        count_live(
-            levels,
-            packets,
-            weight,
-            &mut self.live,
-            &mut self.weights,
-        );
+        count_live(levels, packets, weight, &mut self.live, &mut self.weights);
         match &mut self.all {
             Some(all) => all.note_live(key, levels),
             None => Ok(()),
