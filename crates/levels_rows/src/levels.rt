@@ -1,5 +1,5 @@
 //! What levels keep after a few packets, and after many, where memory is ample.
-ghost use Rattle.std.specs.Prelude.{◌≤◌};
+ghost use Rattle.std.specs.Prelude.{◌≡◌, ◌≤◌};
 
 use crate::keys::key;
 use hash_family::{Family, Params};
@@ -101,17 +101,24 @@ fn noted_keys(rt: HostRuntime) {
     has(&rt, rt.alloc(), &all, 3, &[3]);
 }
 
+// Feeds a key, and notes it by the number of levels that took it.
+fn feed_and_note(rt: &impl Abort, levels: &mut Levels, all: &mut AllKeys, n: u32)
+    ensures top { all.new.top ≡ all.old.top }
+{
+    assert!(rt; levels.weight() <= 1000);
+    let live = levels.feed_by(&key(rt, n), 1);
+    all.note_live(&key(rt, n), live).expect(rt, "ample memory");
+}
+
 #[test]
 fn keys_noted_as_they_are_fed(rt: HostRuntime) {
     let params = Params::new(3, 5, 1024, 4, 1).expect(&rt, "within the limits");
     let mut levels = Levels::new(rt.alloc(), params).expect(&rt, "ample memory");
     let mut all = AllKeys::new(rt.alloc(), 3).expect(&rt, "ample memory");
-    for n in [6, 3, 1, 6] {
-        assert!(rt; levels.weight() <= 1000);
-        let live = levels.feed_by(&key(&rt, n), 1);
-        all.note_live(&key(&rt, n), live)
-            .expect(&rt, "ample memory");
-    }
+    feed_and_note(&rt, &mut levels, &mut all, 6);
+    feed_and_note(&rt, &mut levels, &mut all, 3);
+    feed_and_note(&rt, &mut levels, &mut all, 1);
+    feed_and_note(&rt, &mut levels, &mut all, 6);
     has(&rt, rt.alloc(), &all, 0, &[1, 3, 6]);
     has(&rt, rt.alloc(), &all, 2, &[3, 6]);
     has(&rt, rt.alloc(), &all, 3, &[3]);

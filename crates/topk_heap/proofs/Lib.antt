@@ -5,5 +5,5 @@ pub mod Lists
 pub mod Order
 pub mod Scores
 pub mod Halves
-pub mod Refusals
+pub mod FullLists
 pub mod Rewrites

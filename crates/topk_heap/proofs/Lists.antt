@@ -1,11 +1,11 @@
 -- Lists, by recursion.
-use Rattle.std.proofs.Common.{◌≡◌, ℕ, zero, suc, ◌+◌, ◌<◌, ◌≤◌, inl, inr, Bool, cond, true, false, List, [], ◌∷◌, ◌++◌}
-use Rattle.std.proofs.Common.{length, get_or, refl, sym, ◌∙◌, ap, arith}
+use Rattle.std.proofs.Common.{◌≡◌, ℕ, zero, suc, ◌+◌, ◌-◌, ◌<◌, ◌≤◌, inl, inr, Bool, cond, true, false, List, [], ◌∷◌, ◌++◌}
+use Rattle.std.proofs.Common.{length, get_or, refl, sym, ◌∙◌, ap, subst, arith}
 use Rattle.std.specs.Prelude.{Result, Ok, Err, IsOk, is_ok, if◌then◌else◌}
-use Rattle.std.specs.List.{AllByRecursion, filter, count_by, remove}
-use Rattle.std.proofs.lemmas.Bool.{cases_Bool}
+use Rattle.std.specs.List.{All, AllByRecursion, filter, count_by, insert, remove}
+use Rattle.std.proofs.lemmas.Bool.{cases_Bool, cases_lt}
 use Rattle.std.proofs.lemmas.List.Sums.{length-filter, count_by-le-length, sum_by-remove}
-use Rattle.std.proofs.lemmas.List.Edits.{length-remove}
+use Rattle.std.proofs.lemmas.List.Edits.{get_or-insert_above, get_or-insert_at, get_or-insert_below, length-insert, length-remove}
 
 -- what a filter keeps of a list that passes, or fails, as a whole
 pub filter_all : {X : Type 0} (p : X → Bool) (xs : List X) → AllByRecursion (λ x. p x ≡ true) xs → filter p xs ≡ xs
@@ -75,6 +75,23 @@ all_remove P [] zero h = tt
 all_remove P [] (suc i) h = tt
 all_remove P (x ∷ xs) zero h = h.1
 all_remove P (x ∷ xs) (suc i) h = (h.0, all_remove P xs i h.1)
+
+-- what holds of all, and of what is put in
+pub all_insert : {X : Type 0} (P : X → Type 0) (xs : List X) (i : ℕ) (y : X) → i ≤ length xs → All P xs → P y
+    → All P (insert xs i y)
+all_insert {X} P xs i y within all one = λ k d inside. elim (cases_lt k i) [
+  | inl below ↦ subst P (sym (get_or-insert_below xs i y d k below within)) (all k d (omega (arith, below, within)))
+  | inr rest ↦ elim (cases_lt i k) [
+    | inl above ↦
+        let is : k - 1 + 1 ≡ k = omega arith in
+        subst (λ (n : ℕ). P (get_or (insert xs i y) n d)) is
+        (subst P (sym (get_or-insert_above xs i y d (k - 1) (omega arith) within))
+        (all (k - 1) d (omega (arith, inside, length-insert xs i y within))))
+    | inr same ↦
+        let is : i ≡ k = omega arith in
+        subst (λ (n : ℕ). P (get_or (insert xs i y) n d)) is (subst P (sym (get_or-insert_at xs i y d within)) one)
+  ]
+]
 
 pub all_get_or : {X : Type 0} (P : X → Type 0) (xs : List X) (i : ℕ) (d : X) → i < length xs → AllByRecursion P xs
     → P (get_or xs i d)

@@ -1,5 +1,5 @@
 //! The steps of an offer, on a list that ascends by key.
-ghost use Rattle.std.specs.Prelude.{◌≡◌, ◌↔◌, ◌+◌, ◌<◌, ◌≤◌, true, length, map, set, slice_index_or, vec_len, vec_capacity, Err, IsNone, IfOk};
+ghost use Rattle.std.specs.Prelude.{◌≡◌, ◌↔◌, ◌+◌, ◌^◌, ◌<◌, ◌≤◌, [], ◌∷◌, true, false, length, map, set, slice_index_or, vec_len, vec_capacity, Err, IsNone, IfOk};
 ghost use Rattle.std.specs.Option.{option_to_list};
 ghost use Rattle.topk_heap.specs.Places.{IsPlace, RanksLast};
 ghost use Rattle.topk_heap.specs.Ranking.{best, dropped_keys, ranks_before, with_score, IsAscending};
@@ -40,13 +40,17 @@ pub(crate) fn offer_to(
             None
         }
         Err(place) => {
-            if is_refused(entries, size, *last, &entry) {
+            if entries.len() < size {
+                put_in(entries, place, entry);
+                *last = last_of_full(entries, size);
+                return None;
+            }
+            if entries[*last].ranks_before(&entry) {
                 return Some(key);
             }
-            put_in(entries, place, entry);
-            let dropped = drop_last_ranked(entries, size);
-            *last = last_of_full(entries, size);
-            dropped
+            let dropped = replace_last(entries, *last, place, entry);
+            *last = last_ranked(entries);
+            Some(dropped)
         }
     }
 }
@@ -95,34 +99,34 @@ fn stays_last(entries: &[Entry], size: usize, last: usize, place: usize, entry: 
     !entries[last].ranks_before(entry)
 }
 
-// Drops the entry that ranks last where there is one too many, and gives its key.
-fn drop_last_ranked(entries: &mut Vec<Entry>, size: usize) -> Option<FlowKey>
+// Puts a new entry into a full list, from which the entry at `last` is dropped, which ranks last and not before it. It
+// gives the key that is dropped.
+fn replace_last(entries: &mut Vec<Entry>, last: usize, place: usize, entry: Entry) -> FlowKey
     requires ascending { IsAscending entries.old.items }
-    requires few { length entries.old.items ≤ size + 1 }
-    ensures kept { entries.new.items ≡ best size entries.old.items }
-    ensures dropped { option_to_list result ≡ dropped_keys size entries.old.items }
-    ensures none { IsNone result ↔ (length entries.old.items ≤ size) }
-    ensures fits { length entries.new.items ≤ size }
-    ensures capacity { vec_capacity entries.new ≡ vec_capacity entries.old }
+    requires place { IsPlace entries.old.items entry.key (Err place) }
+    requires room { vec_len entries.old < vec_capacity entries.old }
+    requires last { RanksLast entries.old.items last }
+    requires behind { (d : Entry) → ranks_before (slice_index_or entries.old.items last d) entry ≡ false }
+    ensures kept { entries.new.items
+        ≡ best (length entries.old.items) (with_score entries.old.items entry.key entry.score) }
+    ensures dropped { result ∷ []
+        ≡ dropped_keys (length entries.old.items) (with_score entries.old.items entry.key entry.score) }
+    ensures many { length (with_score entries.old.items entry.key entry.score) ≡ length entries.old.items + 1 }
+    ensures fits { length entries.new.items ≡ length entries.old.items }
+    ensures capacity { vec_capacity entries.old ≤ vec_capacity entries.new }
 {
-    if entries.len() <= size {
-        return None;
-    }
-    let place = last_ranked(entries);
-    Some(entries.remove(place).key)
+    put_in(entries, place, entry);
+    let moved = moved_place(last, place);
+    entries.remove(moved).key
 }
 
-// Whether the list is full and this entry ranks behind all of it. The entry that ranks last of a full list is at `last`.
-fn is_refused(entries: &[Entry], size: usize, last: usize, entry: &Entry) -> bool
-    requires last { length entries.now ≡ size → RanksLast entries.now last }
-    ensures full { result ≡ true → length entries.now ≡ size }
-    ensures behind { result ≡ true
-        → (d : Entry) → ranks_before (slice_index_or entries.now last d) entry.now ≡ true }
+// Where the entry at `last` stands once another is put in at a place.
+fn moved_place(last: usize, place: usize) -> usize
+    requires { last + 1 < 2 ^ 64 }
+    ensures above { place ≤ last → result ≡ last + 1 }
+    ensures below { last < place → result ≡ last }
 {
-    if entries.len() != size {
-        return false;
-    }
-    entries[last].ranks_before(entry)
+    if place <= last { last + 1 } else { last }
 }
 
 // The place of the entry that ranks last, where the list is full.
