@@ -11,6 +11,7 @@ use mon_io::Memory;
 use std::alloc::Global;
 
 /// Makes epochs until there are so many.
+#[inline]
 pub(crate) fn reach(
     alloc: Global,
     setting: &Setting,
@@ -32,6 +33,7 @@ pub(crate) fn reach(
 }
 
 /// Counts a packet in its epoch.
+#[inline]
 pub(crate) fn add_to(sketches: &mut [Gathered], packet: &Routed) -> Result<(), Memory>
     requires within { packet.now.epoch < length sketches.old }
     requires room { HasSpace sketches.old packet.now.weight }

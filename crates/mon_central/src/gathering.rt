@@ -38,6 +38,7 @@ impl Gathered {
     }
 
     /// Counts a packet.
+    #[inline]
     pub(crate) fn add(&mut self, packet: &Routed) -> Result<(), Memory>
         requires { HasPlace self.old packet.now.weight }
         ensures { OnOk result ((setting : Setting) (items : List Item) →

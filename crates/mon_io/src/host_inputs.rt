@@ -71,6 +71,7 @@ impl<'a, R: Files + Input> Inputs for HostInputs<'a, R> {
     }
 
     /// A `Fault` where the system's read fails, as that of a folder does.
+    #[inline]
     fn read(&mut self, buf: &mut [u8]) -> Result<usize, Fault>
         ensures bound { ReadsAtMost result buf.new }
         ensures bytes { Reads (host_inputs_state self.old).rest (host_inputs_state self.new).rest result buf.new }

@@ -40,6 +40,7 @@ impl<S: Read> ReadAhead<S> {
 
     /// Takes what is ahead, and where nothing is, what the stream gives: none only at its end or with
     /// no room. A failed read takes nothing.
+    #[inline]
     pub(crate) fn read(&mut self, buf: &mut [u8]) -> io::Result<usize>
         ensures bound { ReadsAtMost result buf.new }
         ensures bytes { ReadConsumes (remaining_behind S.remaining self.old)
@@ -53,6 +54,7 @@ impl<S: Read> ReadAhead<S> {
     }
 
     // Where nothing is ahead, reads ahead as much as the stream gives at once.
+    #[inline]
     fn fill(&mut self) -> io::Result<()>
         ensures kept { Keeps (remaining_behind S.remaining self.old) (remaining_behind S.remaining self.new) }
         ensures end { OnOk result (bytes_ahead self.new ≡ [] → IsAtEnd (S.remaining self.new.stream)) }
@@ -67,6 +69,7 @@ impl<S: Read> ReadAhead<S> {
     }
 
     // Takes off what is ahead, as much as there is or fits into `buf`.
+    #[inline]
     fn take(&mut self, buf: &mut [u8]) -> usize
         ensures count { result ≡ min (length (bytes_ahead self.old)) (length buf.new) }
         ensures taken { bytes_ahead self.old ≡ take result buf.new ++ bytes_ahead self.new }

@@ -48,6 +48,7 @@ impl TraceCounts {
 
     /// Counts a record, with its key where it has one, and gives its routed packet where it has a path, too. Else it
     /// is `Epochs` where the record is late, and `Weight` where it is heavy and not late; then nothing is counted.
+    #[inline]
     pub fn add(
         &mut self,
         division: &Division,

@@ -17,6 +17,7 @@ pub(crate) fn path_of(topology: &Option<Topology>, key: &FlowKey) -> Option<u8>
 }
 
 // The number of the path that takes a key, by a topology.
+#[inline]
 fn routed_by(topology: &Topology, key: &FlowKey) -> Option<u8>
     ensures path { result ≡ path_of (Some topology.now) key.now }
 {
