@@ -1,7 +1,7 @@
 -- Noted keys, and one key more.
 use Rattle.std.proofs.Common.{◌≡◌, ℕ, ◌+◌, ◌≤◌, ◌<◌, Bool, true, false, inl, inr, List, [], ◌∷◌, ◌++◌, map, refl, sym, ◌∙◌}
 use Rattle.std.proofs.Common.{ap, arith}
-use Rattle.std.specs.Prelude.{Some, None, nat_le}
+use Rattle.std.specs.Prelude.{Option, Some, None, nat_le, unwrap_or}
 use Rattle.std.specs.List.{AllByRecursion, filter}
 use Rattle.std.specs.List.Sorted.{IsStrictlySortedBy}
 use Rattle.std.specs.BTreeMap.{insert_entry, is_at}
@@ -198,9 +198,9 @@ takes_noted seed top key highest n entries is sorted found far = record {
   dead = λ level within dead. refl;
 }
 
--- a key that wasn't
+-- a key that wasn't noted further up
 pub takes_inserted : (seed top : ℕ) (key : List ℕ) (highest : ℕ) (entries : Entries) → IsLiveAt seed top key (highest + 1)
-    → IsStrictlySortedBy cmp (keys_of entries) → ((n : ℕ) → lookup (is_at (cmp key)) entries ≡ Some n → n < highest)
+    → IsStrictlySortedBy cmp (keys_of entries) → ((n : ℕ) → lookup (is_at (cmp key)) entries ≡ Some n → n ≤ highest)
     → TakesKey seed top key entries (insert_entry cmp entries key highest)
 takes_inserted seed top key highest entries is sorted less = record {
   live = λ level within live. insert-at level highest entries key
@@ -208,8 +208,33 @@ takes_inserted seed top key highest entries is sorted less = record {
   dead = λ level within dead.
       let above = above_it is level dead in
       insert-below level highest entries key (lt-leb level highest above)
-      (λ n found. lt-leb level n (omega (arith, less n found)));
+      (λ n found. lt-leb level n (omega (arith, less n found, above)));
 }
+
+-- a key that is given another level, and then its own again
+pub insert-back : (level noted : ℕ) (entries : Entries) (key : List ℕ) → IsStrictlySortedBy cmp (keys_of entries)
+    → lookup (is_at (cmp key)) entries ≡ Some noted
+    → insert_entry cmp (insert_entry cmp entries key level) key noted ≡ entries
+unfolding IsStrictlySortedBy
+insert-back level noted [] key sorted found = cc
+insert-back level noted (e ∷ rest) key sorted found = by_order (cmp key e.0)
+    (λ less. let none = lookup-above (e ∷ rest) key (less, all_less key e.0 (keys_of rest) less sorted.0) in cc)
+    (λ same.
+    let first : Some e.1 ≡ Some noted = rw same at found in
+    let value : e.1 ≡ noted = cc in
+    rw same (rw same (ap (λ (m : ℕ). (e.0, m) ∷ rest) (sym value))))
+    (λ greater. rw greater (rw greater (ap (λ (xs : Entries). e ∷ xs)
+    (insert-back level noted rest key sorted.1 (rw greater at found)))))
+
+-- what was noted before, where it is above the level that stands for none
+pub is_some_above : (before : Option ℕ) (level : ℕ) → level < unwrap_or before level
+    → before ≡ Some (unwrap_or before level)
+is_some_above None level above = absurd (omega (arith, above))
+is_some_above (Some n) level above = refl
+
+pub none_above : (before : Option ℕ) (level n : ℕ) → unwrap_or before level ≤ level → before ≡ Some n → n ≤ level
+none_above None level n few is = cc
+none_above (Some m) level n few is = let same : m ≡ n = cc in rw (sym same) few
 
 -- one note more
 live_keys-live : (level : ℕ) (notes : List Note) (note : Note) → is_live note.seed level note.key ≡ true

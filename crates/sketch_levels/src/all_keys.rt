@@ -103,10 +103,15 @@ fn note_in(highest: &mut BTreeMap<FlowKey, u8>, key: &FlowKey, level: u8) -> Res
         → TakesKey seed top key.now highest.old.entries highest.new.entries) }
     ensures refused { OnErr result (highest.new.entries ≡ highest.old.entries) }
 {
-    if is_noted(highest, key, level) {
+    let Ok(before) = highest.insert(*key, level) else {
+        return Err(Memory);
+    };
+    let noted = before.unwrap_or(level);
+    if noted <= level {
         return Ok(());
     }
-    match highest.insert(*key, level) {
+    // The key is there, so this takes no memory.
+    match highest.insert(*key, noted) {
         Ok(_) => Ok(()),
         Err(_) => Err(Memory),
     }
@@ -123,20 +128,6 @@ fn highest_live(family: &Family, top: u8, key: &FlowKey) -> u8
         }
     }
     top
-}
-
-// Whether the key was noted as live at this level.
-fn is_noted(highest: &BTreeMap<FlowKey, u8>, key: &FlowKey, level: u8) -> bool
-    ensures yes { result ≡ true → (n : ℕ) × (get (slice_cmp nat_cmp) highest.now key.now ≡ Some n) × (level ≤ n) }
-    ensures not_yet { result ≡ false → (n : ℕ) → get (slice_cmp nat_cmp) highest.now key.now ≡ Some n → n < level }
-    ensures ordered { IsOrdered (slice_cmp nat_cmp) highest.now }
-{
-    // Its clause says that the entries ascend by key.
-    let _entries = highest.len();
-    match highest.get(key) {
-        Some(noted) => *noted >= level,
-        None => false,
-    }
 }
 
 // The keys that are live at this level, in the order of the entries.
