@@ -14,6 +14,10 @@ use std::alloc::Global;
 // The most items of a frame.
 const FRAME: usize = 4096;
 
+// How many bytes a frame's count and an item take.
+const COUNT: usize = 2;
+const ITEM: usize = 48;
+
 /// The pieces of the replay job of this number: its head, each frame of the items, and the closing count. It takes
 /// memory.
 pub(crate) fn pieces_of(
@@ -71,7 +75,9 @@ fn frame_piece(alloc: Global, items: &[Item]) -> Result<Vec<u8>, Memory>
     requires { length items.now ≤ frame_limit }
     ensures { IfOk result (λ piece. piece.items ≡ frame_bytes items.now) }
 {
-    let mut piece = Vec::new(alloc);
+    let Ok(mut piece) = Vec::with_capacity(alloc, COUNT + ITEM * items.len()) else {
+        return Err(Memory);
+    };
     write_frame(items, &mut piece)?;
     Ok(piece)
 }
