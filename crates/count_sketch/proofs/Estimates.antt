@@ -35,7 +35,7 @@ filled_more seed level width counters key found row below before = record {
 
 -- ---- after an item in one row
 
-bucket-lt : (seed level row width : ℕ) (key : List ℕ) → 0 < width → bucket seed level row width key < width
+pub bucket-lt : (seed level row width : ℕ) (key : List ℕ) → 0 < width → bucket seed level row width key < width
 unfolding bucket
 bucket-lt seed level row width key = mod_below (hash seed (bucket_function level row) key) width
 

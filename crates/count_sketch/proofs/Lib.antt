@@ -1,3 +1,4 @@
+pub mod AtSpots
 pub mod Counting
 pub mod Estimates
 pub mod Grids

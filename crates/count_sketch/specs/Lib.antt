@@ -2,3 +2,4 @@ pub mod Counters
 pub mod Estimate
 pub mod Row
 pub mod Shape
+pub mod Spots

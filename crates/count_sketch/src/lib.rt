@@ -3,7 +3,8 @@
 //! - `sketch`: `Sketch`, the counters of one level
 //! - `update`: an item added to counters
 //! - `estimate`: what counters say of a key, with `estimate_in` over a slice of counters
-//! - `update_and_estimate`: both at once, so that the key is hashed once a row
+//! - `spots`: `Spots`, where a key counts in each row of a level, with its sign there
+//! - `update_and_estimate`: both at once, at the spots of a key, so that it reads no hash
 //! - `middle`: the middle one of up to seven numbers
 //! - `places`: sums and differences place by place
 //!
@@ -15,8 +16,10 @@ mod estimate;
 mod middle;
 mod places;
 mod sketch;
+mod spots;
 mod update;
 mod update_and_estimate;
 
 pub use estimate::estimate_in;
 pub use sketch::Sketch;
+pub use spots::{Spot, Spots};

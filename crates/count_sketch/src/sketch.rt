@@ -4,7 +4,9 @@ ghost use Rattle.std.specs.Prelude.{IfOk, IsTrue, pos, unsigned_abs};
 ghost use Rattle.hash_family.specs.Limits.{is_rows, is_width};
 ghost use Rattle.count_sketch.specs.Counters.{Item, Grid, plus, minus, counters_of, grid_of, AllUpTo};
 ghost use Rattle.count_sketch.specs.Estimate.{IsMiddle, row_estimates, estimate};
+ghost use Rattle.count_sketch.specs.Spots.{AreSpots};
 
+use crate::Spots;
 use crate::estimate::estimate_in;
 use crate::places::{add_places, sub_places};
 use crate::update::update_in;
@@ -135,10 +137,45 @@ impl Sketch {
             (row_estimates family.now level self.new.rows self.new.width self.new.counters key.now) result }
         ensures result_bound { (n : ℕ) → AllUpTo n self.new.counters → unsigned_abs result ≤ n }
     {
+        let spots = Spots::of(self.rows, self.width, family, level, key);
+        self.update_and_estimate_at(&spots, family, level, key, weight)
+    }
+
+    /// `update_and_estimate_by` at the key's spots. It reads no hash: family, level and key are there for the clauses.
+    #[inline]
+    pub fn update_and_estimate_at(
+        &mut self,
+        spots: &Spots,
+        family: &Family,
+        level: u8,
+        key: &FlowKey,
+        weight: u64,
+    ) -> i64
+        requires level { level ≤ 16 }
+        requires weight { weight ≤ 2 ^ 44 }
+        requires small { AllUpTo (2 ^ 61) self.old.counters }
+        requires spots { AreSpots family.now level self.old.rows self.old.width key.now spots.now }
+        ensures next { self.new ≡ record self.old {
+          counters = plus self.old.counters
+              (counters_of family.now level self.old.rows self.old.width
+              (record { key = key.now; weight = weight } ∷ []));
+        } }
+        ensures list { (items : List Item)
+            → self.old ≡ grid_of family.now level self.old.rows self.old.width items
+            → self.new ≡ grid_of family.now level self.old.rows self.old.width
+            (items ++ record { key = key.now; weight = weight } ∷ []) }
+        ensures bound { (n : ℕ) → AllUpTo n self.old.counters → AllUpTo (n + weight) self.new.counters }
+        ensures value { result
+            ≡ estimate family.now level self.new.rows self.new.width self.new.counters key.now }
+        ensures middle { IsMiddle
+            (row_estimates family.now level self.new.rows self.new.width self.new.counters key.now) result }
+        ensures result_bound { (n : ℕ) → AllUpTo n self.new.counters → unsigned_abs result ≤ n }
+    {
         update_and_estimate_in(
             &mut self.counters,
             self.rows,
             self.width,
+            spots,
             family,
             level,
             key,

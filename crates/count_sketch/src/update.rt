@@ -4,7 +4,6 @@ ghost use Rattle.std.specs.Prelude.{IsTrue, pos, ◌+ℤ◌, ◌*ℤ◌, unsigne
 ghost use Rattle.hash_family.specs.Hash.{sign};
 ghost use Rattle.hash_family.specs.Limits.{is_rows, is_width};
 ghost use Rattle.count_sketch.specs.Counters.{plus, counters_of, AllUpTo};
-ghost use Rattle.count_sketch.specs.Estimate.{row_estimate};
 ghost use Rattle.count_sketch.specs.Row.{AddsToRow, item_place};
 
 use flow_keys::FlowKey;
@@ -33,9 +32,9 @@ pub(crate) fn update_in(
     }
 }
 
-// Adds the item to its counter in a row, and gives what the row then says of the key.
+// Adds the item to its counter in a row.
 #[inline]
-pub(crate) fn update_row(
+fn update_row(
     counters: &mut [i64],
     row: u8,
     width: u16,
@@ -43,7 +42,7 @@ pub(crate) fn update_row(
     level: u8,
     key: &FlowKey,
     weight: u64,
-) -> i64
+)
     requires level { level ≤ 16 }
     requires weight { weight ≤ 2 ^ 44 }
     requires row { row ≤ 6 }
@@ -53,12 +52,10 @@ pub(crate) fn update_row(
         (item_place family.now level row width key.now) (pos 0)) ≤ 2 ^ 61 }
     ensures written { AddsToRow family.now level width
         (record { key = key.now; weight = weight }) counters.old counters.new row }
-    ensures says { result ≡ row_estimate family.now level width counters.new key.now row }
 {
     let at = place_of(family, level, row, width, key);
     let sign = sign_of(family, level, row, key);
     add_at(counters, at, signed(sign, weight as i64));
-    signed(sign, counters[at])
 }
 
 // The place of the key's counter in a row.
@@ -95,8 +92,9 @@ pub(crate) fn signed(sign: i64, number: i64) -> i64
     sign * number
 }
 
+// Adds a share to one counter.
 #[inline]
-fn add_at(numbers: &mut [i64], at: usize, share: i64)
+pub(crate) fn add_at(numbers: &mut [i64], at: usize, share: i64)
     requires at { at < length numbers.old }
     requires number { unsigned_abs (slice_index_or numbers.old at (pos 0)) ≤ 2 ^ 61 }
     requires share { unsigned_abs share ≤ 2 ^ 44 }
