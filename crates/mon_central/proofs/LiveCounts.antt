@@ -1,7 +1,7 @@
 -- The counts of the levels, while a packet is counted.
 use Rattle.std.proofs.Common.{◌≡◌, ◌≢◌, ℕ, ◌+◌, ◌<◌, ◌≤◌, Bool, cond, List, length, slice_index, set, sym, ◌∙◌, ap, subst, arith, inl, inr, length-set, get_or-set_other, get_or-set_same}
 use Rattle.std.proofs.lemmas.Bool.{cases_lt}
-use Rattle.sketch_levels.specs.Items.{IsLiveAt}
+use Rattle.spot_table.specs.Live.{IsLiveAt}
 use Rattle.mon_central.specs.Live.{CountsLive}
 
 -- the levels below this one have counted

@@ -11,7 +11,8 @@ use Rattle.std.proofs.lemmas.List.FromFn.{map-range_with_len_more}
 use Rattle.std.proofs.lemmas.List.Sums.{sum_by-cons, sum_by_push, length-filter, count_by-le-length}
 use Rattle.hash_family.specs.Hash.{is_live}
 use Rattle.count_sketch.specs.Counters.{Item, counters_of}
-use Rattle.sketch_levels.specs.Items.{live_items, weight_of, distinct_keys, IsLiveAt}
+use Rattle.spot_table.specs.Live.{IsLiveAt}
+use Rattle.sketch_levels.specs.Items.{live_items, weight_of, distinct_keys}
 use Rattle.sketch_levels.specs.Levels.{Holds}
 use Rattle.sketch_levels.specs.Noted.{Noted, HoldsNotes, notes_of}
 use Rattle.sketch_levels.specs.Stands.{KeyTotal, ones, packets_of, weights_of}

@@ -1,6 +1,6 @@
 //! How many packets are live at each level, and what they weigh.
 ghost use Rattle.std.specs.Prelude.{◌≡◌, ◌+◌, ◌≤◌, ◌^◌, ℕ, List, All, length};
-ghost use Rattle.sketch_levels.specs.Items.{IsLiveAt};
+ghost use Rattle.spot_table.specs.Live.{IsLiveAt};
 ghost use Rattle.mon_central.specs.Live.{CountsLive};
 
 /// Counts so many more packets, and their weight, at each level where their key is live: the first ones, so many.

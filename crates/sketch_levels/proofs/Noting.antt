@@ -18,7 +18,8 @@ use Rattle.std.proofs.lemmas.Map.Lookups.{exact_bytes}
 use Rattle.hash_family.specs.Hash.{is_live}
 use Rattle.count_sketch.specs.Counters.{Item}
 use Rattle.topk_heap.proofs.Lists.{all_weaker}
-use Rattle.sketch_levels.specs.Items.{distinct, distinct_keys, live_items, with_key, IsLiveAt}
+use Rattle.spot_table.specs.Live.{IsLiveAt}
+use Rattle.sketch_levels.specs.Items.{distinct, distinct_keys, live_items, with_key}
 use Rattle.sketch_levels.specs.Noted.{HoldsNotes, Note, Noted, TakesKey, keys_at, live_keys, notes_of}
 use Rattle.flow_keys.proofs.KeyOrder.{by_order}
 use Rattle.sketch_levels.proofs.Distinct.{distinct-push}

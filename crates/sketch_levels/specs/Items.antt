@@ -1,5 +1,5 @@
 -- The items of a level, and the distinct keys of a list.
-use Rattle.std.specs.Prelude.{◌≡◌, ◌<◌, ◌≤◌, ℕ, true, false, List, [], filter, map, fold, sum_by}
+use Rattle.std.specs.Prelude.{ℕ, List, [], filter, map, fold, sum_by}
 use Rattle.std.specs.BTreeSet.{insert_key}
 use Rattle.std.specs.Cmp.Lexicographic.{slice_cmp}
 use Rattle.std.specs.Ordering.{nat_cmp}
@@ -13,11 +13,6 @@ weight_of items = sum_by (λ item. item.weight) items
 -- the items whose key is live at a level
 unfoldable pub live_items : ℕ → ℕ → List Item → List Item
 live_items seed level items = filter (λ item. is_live seed level item.key) items
-
--- of the levels up to the highest, a key is live at the first so many, and at no other
-pub record IsLiveAt (seed top : ℕ) (key : List ℕ) (number : ℕ) : Type 0 where
-  pub live : (level : ℕ) → level < number → is_live seed level key ≡ true
-  pub dead : (level : ℕ) → number ≤ level → level ≤ top → is_live seed level key ≡ false
 
 -- a key put in its place among ascending keys, unless it is there
 abbrev pub with_key : List (List ℕ) → List ℕ → List (List ℕ)

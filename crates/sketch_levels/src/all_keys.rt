@@ -7,7 +7,8 @@ ghost use Rattle.std.specs.List.Sorted.{IsStrictlySortedBy};
 ghost use Rattle.std.specs.BTreeMap.{get, IsOrdered};
 ghost use Rattle.hash_family.specs.Hash.{is_live};
 ghost use Rattle.count_sketch.specs.Counters.{Item};
-ghost use Rattle.sketch_levels.specs.Items.{distinct_keys, live_items, IsLiveAt};
+ghost use Rattle.spot_table.specs.Live.{IsLiveAt};
+ghost use Rattle.sketch_levels.specs.Items.{distinct_keys, live_items};
 ghost use Rattle.sketch_levels.specs.Noted.{Note, HoldsNotes, TakesKey, keys_at, live_keys, notes_of};
 
 use flow_keys::FlowKey;

@@ -7,11 +7,12 @@ ghost use Rattle.std.specs.List.Sorted.{IsStrictlySortedBy};
 ghost use Rattle.hash_family.specs.Limits.{are_within};
 ghost use Rattle.count_sketch.specs.Counters.{Item, AllUpTo};
 ghost use Rattle.count_sketch.specs.Estimate.{estimate};
+ghost use Rattle.count_sketch.specs.Spots.{AreSpots};
 ghost use Rattle.topk_heap.specs.Ranking.{best, with_score};
 ghost use Rattle.hash_family.specs.Setting.{Setting, setting_of};
 ghost use Rattle.sketch_levels.specs.Levels.{IsLayer, layer_of};
 
-use count_sketch::Sketch;
+use count_sketch::{Sketch, Spots};
 use flow_keys::FlowKey;
 use hash_family::{Family, Params};
 use mon_io::Memory;
@@ -51,11 +52,20 @@ impl Level {
         })
     }
 
-    /// Adds the weight to the key's counters, and then offers the key with its new estimate to the heap.
+    /// Adds the weight to the key's counters, whose spots are given, and then offers the key with its new estimate to
+    /// the heap.
     #[inline]
-    pub(crate) fn feed(&mut self, family: &Family, number: u8, key: &FlowKey, weight: u64)
+    pub(crate) fn feed(
+        &mut self,
+        family: &Family,
+        number: u8,
+        key: &FlowKey,
+        weight: u64,
+        spots: &Spots,
+    )
         requires number { number ≤ 16 }
         requires light { weight ≤ 2 ^ 44 }
+        requires spots { AreSpots family.now number self.old.sketch.rows self.old.sketch.width key.now spots.now }
         requires small { AllUpTo (2 ^ 44) self.old.sketch.counters }
         ensures list { (setting : Setting) (items : List Item) → setting.seed ≡ family.now
             → self.old ≡ layer_of setting number items
@@ -65,7 +75,7 @@ impl Level {
     {
         let score = self
             .sketch
-            .update_and_estimate_by(family, number, key, weight);
+            .update_and_estimate_at(spots, family, number, key, weight);
         let drops = offer(&mut self.heap, key, score);
         self.dropped = self.dropped || drops;
     }

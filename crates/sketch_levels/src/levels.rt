@@ -7,15 +7,20 @@ ghost use Rattle.std.specs.List.Sorted.{IsStrictlySortedBy};
 ghost use Rattle.hash_family.specs.Hash.{is_live};
 ghost use Rattle.count_sketch.specs.Counters.{Item, AllUpTo, counters_of};
 ghost use Rattle.count_sketch.specs.Estimate.{estimate};
-ghost use Rattle.sketch_levels.specs.Items.{live_items, IsLiveAt};
+ghost use Rattle.count_sketch.specs.Spots.{AreSpots};
+ghost use Rattle.spot_table.specs.Known.{IsKnown, live_levels};
+ghost use Rattle.spot_table.specs.Live.{IsLiveAt};
+ghost use Rattle.sketch_levels.specs.Items.{live_items};
 ghost use Rattle.hash_family.specs.Setting.{setting_of};
 ghost use Rattle.sketch_levels.specs.Kept.{kept_keys, is_dropped, score};
 ghost use Rattle.sketch_levels.specs.Levels.{Layer, IsLayer, Takes, layer_of, level_at, heap_keys, IsView, Holds};
 
 use crate::level::Level;
+use count_sketch::Spots;
 use flow_keys::FlowKey;
 use hash_family::{Family, Params};
 use mon_io::Memory;
+use spot_table::{Known, SpotTable};
 use std::alloc::Global;
 use std::marker::Model;
 
@@ -27,6 +32,7 @@ pub struct Levels {
     family: Family,
     weight: u64,
     levels: Vec<Level>,
+    spots: SpotTable,
 }
 
 impl Model for Levels {
@@ -39,7 +45,8 @@ impl Model for Levels {
     ghost view = { λ all. record { setting = setting_of all.params; weight = all.weight; levels = all.levels.items } };
 
     ghost invariant = { λ all. (all.family ≡ all.params.seed)
-        × IsView (record { setting = setting_of all.params; weight = all.weight; levels = all.levels.items }) };
+        × IsView (record { setting = setting_of all.params; weight = all.weight; levels = all.levels.items })
+        × (all.spots ≡ setting_of all.params) };
 }
 
 impl Levels {
@@ -50,11 +57,13 @@ impl Levels {
     {
         let family = Family::new(alloc, params.seed)?;
         let levels = empty_levels(alloc, &params)?;
+        let spots = SpotTable::new(alloc, &params)?;
         Ok(Levels {
             params,
             family,
             weight: 0,
             levels,
+            spots,
         })
     }
 
@@ -79,9 +88,17 @@ impl Levels {
         ensures weight { self.new.weight ≡ self.old.weight + weight }
         ensures live { IsLiveAt self.old.setting.seed self.old.setting.levels key.now result }
     {
-        let live = feed_levels(&mut self.levels, &self.family, key, weight);
+        let known = self.spots.known(&self.family, key);
+        feed_levels(
+            &mut self.levels,
+            &self.params,
+            &self.family,
+            key,
+            weight,
+            &known,
+        );
         self.weight += weight;
-        live
+        known.live()
     }
 
     /// The estimate of a key's weight at a level, from the counters of that level.
@@ -178,33 +195,45 @@ fn empty_levels(alloc: Global, params: &Params) -> Result<Vec<Level>, Memory>
     Ok(levels)
 }
 
-// Feeds the levels from 0 on while the key is live there, and says how many these are.
-fn feed_levels(levels: &mut [Level], family: &Family, key: &FlowKey, weight: u64) -> u8
-    requires number { length levels.old ≤ 17 }
+// Feeds the levels at which the key is live.
+fn feed_levels(
+    levels: &mut [Level],
+    params: &Params,
+    family: &Family,
+    key: &FlowKey,
+    weight: u64,
+    known: &Known,
+)
+    requires number { length levels.old ≡ params.now.levels + 1 }
+    requires family { family.now ≡ params.now.seed }
+    requires known { IsKnown (setting_of params.now) key.now known.now }
     requires light { weight ≤ 2 ^ 44 }
     requires small { All (λ layer. AllUpTo (2 ^ 44) layer.sketch.counters) levels.old }
+    requires shape { All (λ layer. (layer.sketch.rows ≡ params.now.rows) × (layer.sketch.width ≡ params.now.width))
+        levels.old }
     ensures each { (level : ℕ) (d : Layer) → level < length levels.old
         → Takes family.now level (record { key = key.now; weight = weight })
         (slice_index_or levels.old level d) (slice_index_or levels.new level d) }
-    ensures live { (top : ℕ) → length levels.old ≡ top + 1 → IsLiveAt family.now top key.now result }
 {
-    for number in 0..levels.len() {
-        if !takes(family, number as u8, key) {
-            return number as u8;
-        }
-        levels[number].feed(family, number as u8, key, weight);
+    let live = usize::from(known.live()).min(levels.len());
+    for number in 0..live {
+        let spots = spots_at(params, family, number as u8, key, known);
+        levels[number].feed(family, number as u8, key, weight, &spots);
     }
-    levels.len() as u8
 }
 
-// Whether a level takes a key that is live at each level below it.
+// The key's spots at a level where it is live: those that are known, and else found from the hash functions.
 #[inline]
-fn takes(family: &Family, level: u8, key: &FlowKey) -> bool
-    requires { level ≤ 16 }
-    ensures live { result ≡ true
-        → ((below : ℕ) → below < level → is_live family.now below key.now ≡ true)
-        → is_live family.now level key.now ≡ true }
-    ensures dead { result ≡ false → (top : ℕ) → level ≤ top → is_live family.now top key.now ≡ false }
+fn spots_at(params: &Params, family: &Family, level: u8, key: &FlowKey, known: &Known) -> Spots
+    requires level { level ≤ 16 }
+    requires live { level < live_levels known.now }
+    requires family { family.now ≡ params.now.seed }
+    requires known { IsKnown (setting_of params.now) key.now known.now }
+    ensures spots { AreSpots family.now level params.now.rows params.now.width key.now result }
 {
-    level == 0 || family.sample(level, key)
+    if level < 4 {
+        *known.spots(level)
+    } else {
+        Spots::of(params.rows, params.width, family, level, key)
+    }
 }

@@ -23,3 +23,10 @@ returns-in-Solve-clause-replies c =
       says,
     ))
     c.solve_reply.ensures.reply
+
+pub returns-in-Some-levels-clause-within : goal.returns-in-Some-levels-clause-within
+returns-in-Some-levels-clause-within c =
+    let ended = c.requires.ended in
+    let end = ended_replay c.in-Some-levels.levels c.args.items c.in-Some.head.job c.in-Some.head.kind ended.0
+    (rw (c.in-Some.is, c.in-Replay.is, c.in-Some-levels.is) at ended.1) in
+    if_ok_so _ _ c.replay_reply.result (λ reply says. says end.given end.sketch) c.replay_reply.ensures.within

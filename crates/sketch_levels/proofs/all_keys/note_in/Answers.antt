@@ -17,12 +17,12 @@ returns-in-Ok-insert-clause-taken c = λ seed top is.
     let entries = c.args.highest.now.entries in
     let noted = c.unwrap_or-noted.result in
     let found : lookup (is_at (cmp key)) entries ≡ Some noted =
-        sym c.in-Ok.ensures.old
-        ∙ is_some_above c.in-Ok.before c.args.level (omega (arith, c.unwrap_or-noted.ensures, c.if-noted-level.false))
-        ∙ ap (λ (n : ℕ). Some n) (sym c.unwrap_or-noted.ensures) in
+    sym c.in-Ok.ensures.old
+    ∙ is_some_above c.in-Ok.before c.args.level (omega (arith, c.unwrap_or-noted.ensures, c.if-noted-level.false))
+    ∙ ap (λ (n : ℕ). Some n) (sym c.unwrap_or-noted.ensures) in
     let back : c.insert-2.new.self.entries ≡ entries =
-        c.in-Ok-insert.ensures.entries
-        ∙ ap (λ xs. insert_entry cmp xs key noted) c.in-Ok.ensures.entries
-        ∙ insert-back c.args.level noted entries key c.in-Ok.ensures.was_ordered found in
+    c.in-Ok-insert.ensures.entries
+    ∙ ap (λ xs. insert_entry cmp xs key noted) c.in-Ok.ensures.entries
+    ∙ insert-back c.args.level noted entries key c.in-Ok.ensures.was_ordered found in
     rw back
     (takes_noted seed top key c.args.level noted entries is c.in-Ok.ensures.was_ordered found (omega (arith, c.if-noted-level.false)))

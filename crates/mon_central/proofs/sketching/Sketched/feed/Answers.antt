@@ -1,6 +1,6 @@
 use Rattle.std.proofs.Common.{rules, ◌≡◌, ℕ, ◌+◌, List, length, refl, sym, ◌∙◌, ap, subst}
 use Rattle.std.proofs.lemmas.Result.{on_ok_weaker}
-use Rattle.sketch_levels.specs.Items.{IsLiveAt}
+use Rattle.spot_table.specs.Live.{IsLiveAt}
 use Rattle.mon_central.proofs.Packets.{fed_more, live_at, noted_none, noted_some, counts_in}
 use Rattle.mon_central.proofs.sketching.Sketched.feed.Goals as goal
 

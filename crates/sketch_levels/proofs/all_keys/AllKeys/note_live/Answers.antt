@@ -1,6 +1,6 @@
 use Rattle.std.proofs.Common.{◌≡◌, ◌+◌, ℕ, refl, sym, subst, ap, arith}
 use Rattle.std.proofs.lemmas.Result.{on_ok_weaker}
-use Rattle.sketch_levels.specs.Items.{IsLiveAt}
+use Rattle.spot_table.specs.Live.{IsLiveAt}
 use Rattle.sketch_levels.specs.Noted.{HoldsNotes, Noted, TakesKey, notes_of}
 use Rattle.sketch_levels.proofs.Noting.{HoldsNotes-taken, live_up_to, notes_of-push}
 use Rattle.sketch_levels.proofs.all_keys.AllKeys.note_live.Goals as goal

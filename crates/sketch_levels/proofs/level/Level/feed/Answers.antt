@@ -17,7 +17,7 @@ before c = record { sketch = c.self.inside.sketch; heap = c.self.inside.heap; dr
 
 abbrev after : goal.After-self-1 → Layer
 after c = record {
-  sketch = c.update_and_estimate_by-score.new.self;
+  sketch = c.update_and_estimate_at-score.new.self;
   heap = c.offer-drops.new.heap;
   dropped =
       c.if-self.self;
@@ -31,16 +31,16 @@ marked c = elim c.if-self.branch [
 
 -- the score that is offered
 score_is : (c : goal.After-self-1)
-    → to_z w64 (of_z w64 c.update_and_estimate_by-score.result)
-    ≡ estimate c.args.family.now c.args.number c.update_and_estimate_by-score.new.self.rows
-    c.update_and_estimate_by-score.new.self.width c.update_and_estimate_by-score.new.self.counters c.args.key.now
+    → to_z w64 (of_z w64 c.update_and_estimate_at-score.result)
+    ≡ estimate c.args.family.now c.args.number c.update_and_estimate_at-score.new.self.rows
+    c.update_and_estimate_at-score.new.self.width c.update_and_estimate_at-score.new.self.counters c.args.key.now
 score_is c =
-    let fits : FitsSigned w64 c.update_and_estimate_by-score.result = search rules in
-    to_z-of_z w64 _ fits ∙ c.update_and_estimate_by-score.ensures.value
+    let fits : FitsSigned w64 c.update_and_estimate_at-score.result = search rules in
+    to_z-of_z w64 _ fits ∙ c.update_and_estimate_at-score.ensures.value
 
 fed : (c : goal.After-self-1) → IsFed c.args.family.now c.args.number (item c) (before c) (after c)
 fed c = record {
-  sketch = c.update_and_estimate_by-score.ensures.list;
+  sketch = c.update_and_estimate_at-score.ensures.list;
   size = c.offer-drops.ensures.size;
   entries = rw (score_is c) at c.offer-drops.ensures.kept;
   dropped = marked c ∙ ap (λ b. c.self.inside.dropped || b) (rw (score_is c) at c.offer-drops.ensures.drops);
@@ -55,7 +55,7 @@ pub returns-clause-shape : goal.returns-clause-shape
 returns-clause-shape c = λ setting n shape.
     IsLayer-fed setting n c.args.weight (before c) (after c)
     (subst (λ (l : Layer). IsLayer setting n l) (sym c.self.view_is) shape)
-    (ap (λ (g : Grid). g.rows) c.update_and_estimate_by-score.ensures.next)
-    (ap (λ (g : Grid). g.width) c.update_and_estimate_by-score.ensures.next)
+    (ap (λ (g : Grid). g.rows) c.update_and_estimate_at-score.ensures.next)
+    (ap (λ (g : Grid). g.width) c.update_and_estimate_at-score.ensures.next)
     c.offer-drops.ensures.size
-    (c.update_and_estimate_by-score.ensures.bound n)
+    (c.update_and_estimate_at-score.ensures.bound n)

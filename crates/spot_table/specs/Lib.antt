@@ -1,0 +1,3 @@
+pub mod Known
+pub mod Live
+pub mod Table
