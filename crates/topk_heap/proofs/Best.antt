@@ -42,11 +42,11 @@ pub record OneTooMany (size : ℕ) (entries : List Entry) (place : ℕ) : Type 0
   pub count : length entries ≡ size + 1
   pub last : RanksLast entries place
 
-not_equal : (o : Ordering) → o ≡ Less → o ≡ Equal → ⊥
+pub not_equal : (o : Ordering) → o ≡ Less → o ≡ Equal → ⊥
 not_equal o less same = cc
 
 -- each other key differs
-apart : (entries : List Entry) (i : ℕ) (d : Entry) → i < length entries → IsAscending entries
+pub apart : (entries : List Entry) (i : ℕ) (d : Entry) → i < length entries → IsAscending entries
     → AllByRecursion (λ e. key_cmp (get_or entries i d) e ≡ Equal → ⊥) (remove entries i)
 unfolding IsStrictlySortedBy
 apart [] i d within ascending = absurd (omega arith)

@@ -20,7 +20,7 @@ remove-insert [] (suc i) y within = absurd (omega arith)
 remove-insert (x ∷ xs) (suc i) y within = ap (λ (l : List _). x ∷ l) (remove-insert xs i y (omega arith))
 
 -- the list with the new entry put in before its place
-put : (entries : List Entry) (key : List ℕ) (score : ℤ) (place : ℕ) → IsAscending entries
+pub put : (entries : List Entry) (key : List ℕ) (score : ℤ) (place : ℕ) → IsAscending entries
     → IsPlace entries key (Err place) → insert entries place (entry key score) ≡ with_score entries key score
 put entries key score place ascending at =
     with_score_before entries key score place ascending at.0.within (recursion_from_All _ _ at.0.lesser) at.1

@@ -40,7 +40,7 @@ below_middle entries key k middle d ascending under within less = elim (cases_lt
       (λ (n : ℕ). slice_cmp nat_cmp (get_or entries n d).key key ≡ Less) is less
 ]
 
-above_middle : (entries : List Entry) (key : List ℕ) (k middle : ℕ) (d : Entry) → IsAscending entries → middle ≤ k
+pub above_middle : (entries : List Entry) (key : List ℕ) (k middle : ℕ) (d : Entry) → IsAscending entries → middle ≤ k
     → k < length entries → slice_cmp nat_cmp (get_or entries middle d).key key ≡ Greater
     → slice_cmp nat_cmp (get_or entries k d).key key ≡ Greater
 above_middle entries key k middle d ascending over within greater = elim (cases_lt middle k) [

@@ -7,3 +7,8 @@ pub mod Scores
 pub mod Halves
 pub mod FullLists
 pub mod Rewrites
+pub mod Slots
+pub mod LastOnes
+pub mod Numbers
+pub mod Replaced
+pub mod Found

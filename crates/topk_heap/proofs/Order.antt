@@ -1,11 +1,11 @@
 -- The two orders of entries: by rank, and by key.
-use Rattle.std.proofs.Common.{◌≡◌, ℕ, ◌+◌, true, false, List, ◌<◌, get_or, refl, ap, arith, below_more}
+use Rattle.std.proofs.Common.{◌≡◌, ℕ, ◌+◌, ◌<◌, true, false, List, get_or, refl, ◌∙◌, ap, arith, below_more}
 use Rattle.std.specs.Cmp.{IsTotalOrder}
 use Rattle.std.specs.declared.cmp.Ordering.{Ordering}
 use Rattle.std.specs.declared.cmp.Ordering.TheVariants.{Less, Equal, Greater}
 use Rattle.std.specs.Ordering.{is_lt, int_cmp, ordering_then, ordering_reverse}
 use Rattle.std.proofs.lemmas.Cmp.{then_total, back_total, on_total, int_cmp_total, nat_list_cmp_total, tied_itself}
-use Rattle.std.proofs.lemmas.Cmp.{tied_back}
+use Rattle.std.proofs.lemmas.Cmp.{alike_right, tied_back}
 use Rattle.topk_heap.specs.Ranking.{rank_cmp, key_cmp, ranks_before}
 use Rattle.topk_heap.specs.declared.entry.Entry.{Entry}
 
@@ -38,6 +38,11 @@ not_before_more x y z first behind =
     not_is_lt (rank_cmp y z)
     (λ less. let e = ap is_lt (rank_total.trans x y z (less_from_is_lt (rank_cmp x y) first) less) in cc)
 
+tied_either : (o back : Ordering) → back ≡ ordering_reverse o → is_lt o ≡ false → is_lt back ≡ false → o ≡ Equal
+tied_either Less back e first second = cc
+tied_either Equal back e first second = refl
+tied_either Greater back e first second = let k = ap is_lt e in cc
+
 second_equal : (o p : Ordering) → ordering_then o p ≡ Equal → p ≡ Equal
 second_equal Less p h = cc
 second_equal Equal p h = h
@@ -53,6 +58,15 @@ pub before_if_not : (x y : Entry) → (key_cmp x y ≡ Equal → ⊥) → ranks_
 before_if_not x y apart behind =
     is_lt_back (rank_cmp y x) (rank_cmp x y) (rank_total.antisymm x y) behind
     (λ same. apart (tied_back key_total y x (second_equal (int_cmp x.score y.score) (key_cmp y x) same)))
+
+-- what isn't ahead of y, which isn't ahead of z
+pub not_before_either : (x y z : Entry) → ranks_before x y ≡ false → ranks_before y z ≡ false → ranks_before x z ≡ false
+not_before_either x y z first second =
+    not_is_lt (rank_cmp x z) (λ less.
+    let ahead : ranks_before x z ≡ true = ap is_lt less in
+    let behind = not_before_more x z y ahead first in
+    let tied = tied_either (rank_cmp y z) (rank_cmp z y) (rank_total.antisymm z y) second behind in
+    let e = ap is_lt (alike_right rank_total y z x tied ∙ less) in cc)
 
 -- of the entries before `upto` none ranks behind the one at `place`
 pub record IsLastSoFar (entries : List Entry) (place upto : ℕ) : Type 0 where

@@ -1,6 +1,6 @@
 -- What clauses see of a table.
-use Rattle.std.specs.Prelude.{◌≡◌, ℕ, ℤ, ◌<◌, ◌≤◌, List, [], length}
-use Rattle.topk_heap.specs.Places.{RanksLast}
+use Rattle.std.specs.Prelude.{◌≡◌, ℕ, ℤ, ◌≤◌, List, [], length}
+use Rattle.topk_heap.specs.Places.{listed, HasLasts, IsOrder}
 use Rattle.topk_heap.specs.Ranking.{IsAscending, dropped_keys, with_score}
 use Rattle.topk_heap.specs.declared.entry.Entry.{Entry}
 
@@ -24,8 +24,12 @@ pub record IsTable (table : Table) : Type 0 where
   pub few : length table.entries ≤ table.size
   pub ascending : IsAscending table.entries
 
--- a table with room for one more entry than it may hold, and the place of the entry that ranks last, where it is full
-pub record IsTableInRoom (table : Table) (capacity place : ℕ) : Type 0 where
-  pub whole : IsTable table
-  pub room : table.size < capacity
-  pub last : length table.entries ≡ table.size → RanksLast table.entries place
+-- a table in slots, in an order that ascends by key: there is room for all entries that it may hold, and where it is full
+-- the slot that ranks last is known of each group
+pub record IsStored (size : ℕ) (slots : List Entry) (order lasts : List ℕ) (slots_room order_room : ℕ) : Type 0 where
+  pub whole : IsTable (record { size = size; entries = listed slots order })
+  pub numbers : IsOrder (length slots) order
+  pub slots_fit : size ≤ slots_room
+  pub order_fits : size ≤ order_room
+  pub groups : length lasts ≡ 32
+  pub last_ones : length order ≡ size → HasLasts slots lasts

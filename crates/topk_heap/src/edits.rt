@@ -1,152 +1,195 @@
-//! The steps of an offer, on a list that ascends by key.
-ghost use Rattle.std.specs.Prelude.{◌≡◌, ◌↔◌, ◌+◌, ◌^◌, ◌<◌, ◌≤◌, [], ◌∷◌, true, false, length, map, set, slice_index_or, vec_len, vec_capacity, Err, IsNone, IfOk};
+//! The steps of an offer.
+ghost use Rattle.std.specs.Prelude.{◌≡◌, ◌↔◌, ◌+◌, ◌<◌, ◌≤◌, [], ◌∷◌, false, length, map, set, slice_index_or, vec_len, vec_capacity, All, Err, IsNone, IfOk};
+ghost use Rattle.std.specs.List.{insert, remove};
 ghost use Rattle.std.specs.Option.{option_to_list};
-ghost use Rattle.topk_heap.specs.Places.{IsPlace, RanksLast};
+ghost use Rattle.topk_heap.specs.Places.{listed, HasLasts, IsOrder, IsPlace, RanksLast};
 ghost use Rattle.topk_heap.specs.Ranking.{best, dropped_keys, ranks_before, with_score, IsAscending};
 ghost use Rattle.topk_heap.specs.declared.entry.Entry.{Entry};
 
 use crate::Entry;
-use crate::place::{last_ranked, place_of};
+use crate::groups::{last_slot, search_groups, write_slot};
+use crate::place::{place_of, place_of_slot};
 use flow_keys::FlowKey;
 use mon_io::Memory;
 use std::alloc::Global;
 
-// Gives the key this score in a list of at most `size` entries, and keeps the best of them: the entry of a held key is
-// written over, and a new one is put in or refused. It gives the key that is dropped, the offered one where it is
-// refused. The entry that ranks last of a full list is at `last`, before and after.
+// Gives the key this score in a table of at most `size` entries, and keeps the best of them: the slot of a held key is
+// written, and a new key is put in or refused. It gives the key that is dropped, the offered one where it is refused.
+// The slots that rank last of their groups are known of a full table, before and after.
 pub(crate) fn offer_to(
-    entries: &mut Vec<Entry>,
+    slots: &mut Vec<Entry>,
+    order: &mut Vec<u16>,
+    lasts: &mut Vec<u16>,
     size: usize,
-    last: &mut usize,
     key: FlowKey,
     score: i64,
 ) -> Option<FlowKey>
     requires some { 1 ≤ size }
-    requires ascending { IsAscending entries.old.items }
-    requires few { length entries.old.items ≤ size }
-    requires room { size < vec_capacity entries.old }
-    requires last { length entries.old.items ≡ size → RanksLast entries.old.items last.old }
-    ensures kept { entries.new.items ≡ best size (with_score entries.old.items key score) }
-    ensures dropped { option_to_list result ≡ dropped_keys size (with_score entries.old.items key score) }
-    ensures none { IsNone result ↔ (length (with_score entries.old.items key score) ≤ size) }
-    ensures fits { length entries.new.items ≤ size }
-    ensures last { length entries.new.items ≡ size → RanksLast entries.new.items last.new }
-    ensures capacity { vec_capacity entries.old ≤ vec_capacity entries.new }
+    requires limit { size ≤ 1024 }
+    requires ascending { IsAscending (listed slots.old.items order.old.items) }
+    requires order { IsOrder (length slots.old.items) order.old.items }
+    requires few { length order.old.items ≤ size }
+    requires slots_room { size ≤ vec_capacity slots.old }
+    requires order_room { size ≤ vec_capacity order.old }
+    requires groups { length lasts.old.items ≡ 32 }
+    requires lasts { length order.old.items ≡ size → HasLasts slots.old.items lasts.old.items }
+    ensures kept { listed slots.new.items order.new.items
+        ≡ best size (with_score (listed slots.old.items order.old.items) key score) }
+    ensures dropped { option_to_list result
+        ≡ dropped_keys size (with_score (listed slots.old.items order.old.items) key score) }
+    ensures none { IsNone result
+        ↔ (length (with_score (listed slots.old.items order.old.items) key score) ≤ size) }
+    ensures order { IsOrder (length slots.new.items) order.new.items }
+    ensures fits { length order.new.items ≤ size }
+    ensures slots_room { size ≤ vec_capacity slots.new }
+    ensures order_room { size ≤ vec_capacity order.new }
+    ensures groups { length lasts.new.items ≡ 32 }
+    ensures lasts { length order.new.items ≡ size → HasLasts slots.new.items lasts.new.items }
 {
     let entry = Entry { key, score };
-    match place_of(entries, &key) {
+    match place_of(slots, order, &key) {
         Ok(place) => {
-            *last = rewrite(entries, size, *last, place, entry);
+            rewrite(slots, lasts, size, usize::from(order[place]), entry);
             None
         }
         Err(place) => {
-            if entries.len() < size {
-                put_in(entries, place, entry);
-                *last = last_of_full(entries, size);
+            if order.len() < size {
+                put_in(slots, order, place, entry);
+                search_full(slots, lasts, size);
                 return None;
             }
-            if entries[*last].ranks_before(&entry) {
+            let last = last_slot(slots, lasts);
+            if slots[last].ranks_before(&entry) {
                 return Some(key);
             }
-            let dropped = replace_last(entries, *last, place, entry);
-            *last = last_ranked(entries);
-            Some(dropped)
+            Some(replace_last(slots, order, lasts, last, place, entry))
         }
     }
 }
 
-// Puts a new entry in before the place, for which there must be room.
-fn put_in(entries: &mut Vec<Entry>, place: usize, entry: Entry)
-    requires ascending { IsAscending entries.old.items }
-    requires place { IsPlace entries.old.items entry.key (Err place) }
-    requires room { vec_len entries.old < vec_capacity entries.old }
-    ensures items { entries.new.items ≡ with_score entries.old.items entry.key entry.score }
-    ensures capacity { vec_capacity entries.old ≤ vec_capacity entries.new }
+// Writes the slot of a held key. The last ones of the groups are known of a full table, before and after.
+fn rewrite(slots: &mut Vec<Entry>, lasts: &mut Vec<u16>, size: usize, slot: usize, entry: Entry)
+    requires within { slot < length slots.old.items }
+    requires few { length slots.old.items ≤ 1024 }
+    requires groups { length lasts.old.items ≡ 32 }
+    requires lasts { length slots.old.items ≡ size → HasLasts slots.old.items lasts.old.items }
+    ensures slots { slots.new.items ≡ set slots.old.items slot entry }
+    ensures capacity { vec_capacity slots.old ≤ vec_capacity slots.new }
+    ensures groups { length lasts.new.items ≡ 32 }
+    ensures lasts { length slots.new.items ≡ size → HasLasts slots.new.items lasts.new.items }
 {
-    let _ = entries.insert(place, entry);
-}
-
-// Writes the entry at the place, and gives the place of the entry that ranks last of a full list, found anew only where
-// it may be another.
-fn rewrite(entries: &mut [Entry], size: usize, last: usize, place: usize, entry: Entry) -> usize
-    requires some { 1 ≤ size }
-    requires within { place < length entries.old }
-    requires last { length entries.old ≡ size → RanksLast entries.old last }
-    ensures items { entries.new ≡ set entries.old place entry }
-    ensures last { length entries.new ≡ size → RanksLast entries.new result }
-{
-    let stays = stays_last(entries, size, last, place, &entry);
-    entries[place] = entry;
-    if stays {
-        last
+    if slots.len() == size {
+        write_slot(slots, lasts, slot, entry);
     } else {
-        last_of_full(entries, size)
+        slots[slot] = entry;
     }
 }
 
-// Whether the entry at `last` of a full list ranks last still where this entry is written at another place.
-fn stays_last(entries: &[Entry], size: usize, last: usize, place: usize, entry: &Entry) -> bool
-    requires within { place < length entries.now }
-    requires last { length entries.now ≡ size → RanksLast entries.now last }
-    ensures last { result ≡ true → RanksLast (set entries.now place entry.now) last }
+// Puts a new entry into a slot of its own, and the slot's number into the order before the place.
+fn put_in(slots: &mut Vec<Entry>, order: &mut Vec<u16>, place: usize, entry: Entry)
+    requires few { length slots.old.items < 1024 }
+    requires ascending { IsAscending (listed slots.old.items order.old.items) }
+    requires order { IsOrder (length slots.old.items) order.old.items }
+    requires place { IsPlace (listed slots.old.items order.old.items) entry.key (Err place) }
+    requires slots_room { vec_len slots.old < vec_capacity slots.old }
+    requires order_room { vec_len order.old < vec_capacity order.old }
+    ensures items { listed slots.new.items order.new.items
+        ≡ with_score (listed slots.old.items order.old.items) entry.key entry.score }
+    ensures more { length slots.new.items ≡ length slots.old.items + 1 }
+    ensures order { IsOrder (length slots.new.items) order.new.items }
+    ensures slots_capacity { vec_capacity slots.old ≤ vec_capacity slots.new }
+    ensures order_capacity { vec_capacity order.old ≤ vec_capacity order.new }
 {
-    if entries.len() != size {
-        return false;
-    }
-    if place == last {
-        return false;
-    }
-    !entries[last].ranks_before(entry)
+    let slot = slots.len() as u16;
+    let _ = slots.push(entry);
+    let _ = order.insert(place, slot);
 }
 
-// Puts a new entry into a full list, from which the entry at `last` is dropped, which ranks last and not before it. It
-// gives the key that is dropped.
-fn replace_last(entries: &mut Vec<Entry>, last: usize, place: usize, entry: Entry) -> FlowKey
-    requires ascending { IsAscending entries.old.items }
-    requires place { IsPlace entries.old.items entry.key (Err place) }
-    requires room { vec_len entries.old < vec_capacity entries.old }
-    requires last { RanksLast entries.old.items last }
-    requires behind { (d : Entry) → ranks_before (slice_index_or entries.old.items last d) entry ≡ false }
-    ensures kept { entries.new.items
-        ≡ best (length entries.old.items) (with_score entries.old.items entry.key entry.score) }
+// Finds the last one of each group where the table is full.
+fn search_full(slots: &[Entry], lasts: &mut Vec<u16>, size: usize)
+    requires few { length slots.now ≤ 1024 }
+    requires groups { length lasts.old.items ≡ 32 }
+    ensures groups { length lasts.new.items ≡ 32 }
+    ensures lasts { length slots.now ≡ size → HasLasts slots.now lasts.new.items }
+{
+    if slots.len() == size {
+        search_groups(slots, lasts);
+    }
+}
+
+// Puts a new entry into a full table in place of the one of the slot `last`, which ranks last and not before the new one.
+// It gives the key that is dropped.
+fn replace_last(
+    slots: &mut Vec<Entry>,
+    order: &mut Vec<u16>,
+    lasts: &mut Vec<u16>,
+    last: usize,
+    place: usize,
+    entry: Entry,
+) -> FlowKey
+    requires few { length slots.old.items ≤ 1024 }
+    requires ascending { IsAscending (listed slots.old.items order.old.items) }
+    requires order { IsOrder (length slots.old.items) order.old.items }
+    requires place { IsPlace (listed slots.old.items order.old.items) entry.key (Err place) }
+    requires order_room { length slots.old.items ≤ vec_capacity order.old }
+    requires groups { length lasts.old.items ≡ 32 }
+    requires lasts { HasLasts slots.old.items lasts.old.items }
+    requires last { RanksLast slots.old.items last }
+    requires behind { (d : Entry) → ranks_before (slice_index_or slots.old.items last d) entry ≡ false }
+    ensures kept { listed slots.new.items order.new.items
+        ≡ best (length slots.old.items) (with_score (listed slots.old.items order.old.items) entry.key entry.score) }
     ensures dropped { result ∷ []
-        ≡ dropped_keys (length entries.old.items) (with_score entries.old.items entry.key entry.score) }
-    ensures many { length (with_score entries.old.items entry.key entry.score) ≡ length entries.old.items + 1 }
-    ensures fits { length entries.new.items ≡ length entries.old.items }
-    ensures capacity { vec_capacity entries.old ≤ vec_capacity entries.new }
+        ≡ dropped_keys (length slots.old.items)
+        (with_score (listed slots.old.items order.old.items) entry.key entry.score) }
+    ensures many { length (with_score (listed slots.old.items order.old.items) entry.key entry.score)
+        ≡ length slots.old.items + 1 }
+    ensures count { length slots.new.items ≡ length slots.old.items }
+    ensures order { IsOrder (length slots.new.items) order.new.items }
+    ensures slots_capacity { vec_capacity slots.old ≤ vec_capacity slots.new }
+    ensures order_capacity { vec_capacity order.old ≤ vec_capacity order.new }
+    ensures groups { length lasts.new.items ≡ 32 }
+    ensures lasts { HasLasts slots.new.items lasts.new.items }
 {
-    put_in(entries, place, entry);
-    let moved = moved_place(last, place);
-    entries.remove(moved).key
+    let dropped = slots[last].key;
+    let from = place_of_slot(slots, order, last);
+    move_number(order, from, place_without(place, from));
+    write_slot(slots, lasts, last, entry);
+    dropped
 }
 
-// Where the entry at `last` stands once another is put in at a place.
-fn moved_place(last: usize, place: usize) -> usize
-    requires { last + 1 < 2 ^ 64 }
-    ensures above { place ≤ last → result ≡ last + 1 }
-    ensures below { last < place → result ≡ last }
+// Where a place is once what stands at `from` is taken out.
+fn place_without(place: usize, from: usize) -> usize
+    ensures above { from < place → result + 1 ≡ place }
+    ensures below { place ≤ from → result ≡ place }
 {
-    if place <= last { last + 1 } else { last }
+    if from < place { place - 1 } else { place }
 }
 
-// The place of the entry that ranks last, where the list is full.
-fn last_of_full(entries: &[Entry], size: usize) -> usize
-    requires { 1 ≤ size }
-    ensures last { length entries.now ≡ size → RanksLast entries.now result }
+// Takes the number at one place of an order out, and puts it in at another.
+fn move_number(order: &mut Vec<u16>, from: usize, to: usize)
+    requires from { from < length order.old.items }
+    requires to { to < length order.old.items }
+    requires room { length order.old.items ≤ vec_capacity order.old }
+    ensures items { order.new.items
+        ≡ insert (remove order.old.items from) to (slice_index_or order.old.items from 0) }
+    ensures capacity { vec_capacity order.old ≤ vec_capacity order.new }
 {
-    if entries.len() == size {
-        last_ranked(entries)
-    } else {
-        0
-    }
+    let slot = order.remove(from);
+    let _ = order.insert(to, slot);
 }
 
 // The keys in the order of their entries.
-pub(crate) fn keys_of(alloc: Global, entries: &[Entry]) -> Result<Vec<FlowKey>, Memory>
-    ensures keys { IfOk result (λ keys. keys.items ≡ map (λ entry. entry.key) entries.now) }
+pub(crate) fn keys_of(alloc: Global, slots: &[Entry], order: &[u16]) -> Result<Vec<FlowKey>, Memory>
+    requires below { All (λ slot. slot < length slots.now) order.now }
+    ensures keys { IfOk result (λ keys. keys.items ≡ map (λ entry. entry.key) (listed slots.now order.now)) }
 {
-    match entries.iter().map(|entry| entry.key).collect(alloc) {
-        Ok(keys) => Ok(keys),
-        Err(_) => Err(Memory),
+    let Ok(mut keys) = Vec::with_capacity(alloc, order.len()) else {
+        return Err(Memory);
+    };
+    for place in 0..order.len() {
+        let Ok(()) = keys.push(slots[usize::from(order[place])].key) else {
+            return Err(Memory);
+        };
     }
+    Ok(keys)
 }

@@ -1,8 +1,9 @@
 //! The best keys of a stream of offers: a table of at most `k` keys with a score each.
 //!
 //! - `entry`: `Entry`, a key with its score, and which of two ranks first
-//! - `place`: where a key stands in a list that ascends by key, and the entry that ranks last
-//! - `edits`: a score put into such a list, and the entry that ranks last dropped from it
+//! - `place`: where a key stands in the order of the slots, which ascends by key
+//! - `groups`: the slot that ranks last, by groups of slots
+//! - `edits`: a score put into the slots, and the entry that ranks last dropped from them
 //! - `offer`: what an offer answers
 //! - `top`: `TopK`, the table
 //!
@@ -12,6 +13,7 @@
 
 mod edits;
 mod entry;
+mod groups;
 mod offer;
 mod place;
 mod top;

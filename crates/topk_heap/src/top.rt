@@ -19,25 +19,29 @@ use std::marker::Model;
 #[derive(Drop)]
 pub struct TopK {
     size: usize,
-    entries: Vec<Entry>,
-    // the place of the entry that ranks last, where the table is full
-    last: usize,
+    // the entries, which keep their slots
+    slots: Vec<Entry>,
+    // the numbers of the slots in ascending order of their keys
+    order: Vec<u16>,
+    // for each group of 32 slots the one that ranks last of it, where the table is full
+    lasts: Vec<u16>,
 }
 
 impl Model for TopK {
-    ghost use Rattle.topk_heap.specs.Table.{Table, IsTableInRoom};
+    ghost use Rattle.topk_heap.specs.Table.{Table, IsStored};
+    ghost use Rattle.topk_heap.specs.Places.{listed};
     ghost use Rattle.std.specs.Prelude.{vec_capacity};
 
     ghost Value = { Table };
 
-    ghost view = { λ top. record { size = top.size; entries = top.entries.items } };
+    ghost view = { λ top. record { size = top.size; entries = listed top.slots.items top.order.items } };
 
-    ghost invariant = { λ top.
-        IsTableInRoom (record { size = top.size; entries = top.entries.items }) (vec_capacity top.entries) top.last };
+    ghost invariant = { λ top. IsStored top.size top.slots.items top.order.items top.lasts.items
+        (vec_capacity top.slots) (vec_capacity top.order) };
 }
 
 impl TopK {
-    /// A table of no keys that holds at most `k`, which is 1 to 1,024. It takes the room for `k + 1` entries.
+    /// A table of no keys that holds at most `k`, which is 1 to 1,024. It takes the room for `k` entries.
     pub fn new(alloc: Global, k: u16) -> Result<TopK, Memory>
         requires some { 1 ≤ k }
         requires few { k ≤ 1024 }
@@ -45,14 +49,21 @@ impl TopK {
         ensures table { IfOk result (λ top. IsTable top) }
     {
         let size = usize::from(k);
-        match Vec::with_capacity(alloc, size + 1) {
-            Ok(entries) => Ok(TopK {
-                size,
-                entries,
-                last: 0,
-            }),
-            Err(_) => Err(Memory),
-        }
+        let Ok(slots) = Vec::with_capacity(alloc, size) else {
+            return Err(Memory);
+        };
+        let Ok(order) = Vec::with_capacity(alloc, size) else {
+            return Err(Memory);
+        };
+        let Ok(lasts) = vec![in alloc; 0u16; 32] else {
+            return Err(Memory);
+        };
+        Ok(TopK {
+            size,
+            slots,
+            order,
+            lasts,
+        })
     }
 
     /// Gives the key this score. A key that isn't held is added, and where that makes one key too many
@@ -70,7 +81,14 @@ impl TopK {
             → (result ≡ Offer.KeptDropping y) ↔ ((y ≢ key) × Contains (drops self.old key score) y) }
         ensures table { IsTable self.new }
     {
-        let dropped = offer_to(&mut self.entries, self.size, &mut self.last, key, score);
+        let dropped = offer_to(
+            &mut self.slots,
+            &mut self.order,
+            &mut self.lasts,
+            self.size,
+            key,
+            score,
+        );
         Offer::of(&key, dropped)
     }
 
@@ -79,7 +97,7 @@ impl TopK {
         ensures value { result ≡ length self.now.entries }
         ensures table { IsTable self.now }
     {
-        self.entries.len()
+        self.order.len()
     }
 
     /// The held keys in strictly ascending order. It takes memory for them.
@@ -87,6 +105,6 @@ impl TopK {
         ensures keys { IfOk result (λ keys. keys.items ≡ map (λ entry. entry.key) self.now.entries) }
         ensures ascending { IfOk result (λ keys. IsStrictlySortedBy (slice_cmp nat_cmp) keys.items) }
     {
-        keys_of(alloc, &self.entries)
+        keys_of(alloc, &self.slots, &self.order)
     }
 }

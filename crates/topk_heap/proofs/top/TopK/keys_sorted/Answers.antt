@@ -3,6 +3,7 @@ use Rattle.std.specs.Cmp.Lexicographic.{slice_cmp}
 use Rattle.std.specs.List.Sorted.{IsStrictlySortedBy}
 use Rattle.std.specs.Ordering.{nat_cmp}
 use Rattle.std.specs.Prelude.{IfOk}
+use Rattle.topk_heap.specs.Places.{listed}
 use Rattle.topk_heap.specs.Ranking.{IsAscending}
 use Rattle.topk_heap.specs.declared.entry.Entry.{Entry}
 use Rattle.topk_heap.proofs.Scores.{IsStrictlySortedBy-keys}
@@ -16,5 +17,5 @@ sorted_if_ok entries (Err error) ascending same = tt
 
 pub returns-clause-ascending : goal.returns-clause-ascending
 returns-clause-ascending c =
-    sorted_if_ok c.self.inside.entries.items c.keys_of.result c.self.invariant.whole.ascending
-    (rw c.deref.ensures.value at c.keys_of.ensures.keys)
+    sorted_if_ok (listed c.self.inside.slots.items c.self.inside.order.items) c.keys_of.result c.self.invariant.whole.ascending
+    (rw (c.deref.ensures.value, c.deref-2.ensures.value) at c.keys_of.ensures.keys)

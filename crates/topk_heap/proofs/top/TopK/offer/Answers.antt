@@ -3,6 +3,7 @@ use Rattle.topk_heap.proofs.AnswerLemmas.{answer_dropping, answer_refused}
 use Rattle.topk_heap.proofs.Best.{IsAscending-best}
 use Rattle.topk_heap.proofs.Held.{length-with_score}
 use Rattle.topk_heap.proofs.Scores.{IsAscending-with_score}
+use Rattle.topk_heap.proofs.Slots.{length-listed}
 use Rattle.topk_heap.proofs.top.TopK.offer.Goals as goal
 
 pub invariant_of-self : goal.invariant_of-self
@@ -10,12 +11,19 @@ invariant_of-self c = record {
   whole = record {
     some = c.self.invariant.whole.some;
     limit = c.self.invariant.whole.limit;
-    few = c.offer_to-dropped.ensures.fits;
+    few = omega (
+      arith,
+      c.offer_to-dropped.ensures.fits,
+      length-listed c.offer_to-dropped.new.slots.items c.offer_to-dropped.new.order.items,
+    );
     ascending = rw c.offer_to-dropped.ensures.kept
         (IsAscending-best _ _ (IsAscending-with_score _ _ _ c.self.invariant.whole.ascending));
   };
-  room = omega (arith, c.offer_to-dropped.ensures.capacity, c.self.invariant.room);
-  last = c.offer_to-dropped.ensures.last;
+  numbers = c.offer_to-dropped.ensures.order;
+  slots_fit = c.offer_to-dropped.ensures.slots_room;
+  order_fits = c.offer_to-dropped.ensures.order_room;
+  groups = c.offer_to-dropped.ensures.groups;
+  last_ones = c.offer_to-dropped.ensures.lasts;
 }
 
 pub returns-clause-one_more : goal.returns-clause-one_more
