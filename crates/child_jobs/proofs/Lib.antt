@@ -2,6 +2,7 @@ mod Begins
 mod Collected
 mod Ended
 mod Heads
+mod Frames
 mod Light
 mod Moves
 mod Rooms

@@ -201,16 +201,16 @@ take-add n m xs =
     ∙ ap (λ (l : List ℕ). l ++ drop n (take (n + m) xs)) (take-take n (n + m) xs (omega arith))
     ∙ ap (λ (l : List ℕ). take n xs ++ l) (drop-take n m xs)
 
-reached-nil : (now : Reached Place JobFault) → reached job_format now [] ≡ now
+pub reached-nil : (now : Reached Place JobFault) → reached job_format now [] ≡ now
 unfolding reached
 reached-nil now = refl
 
-yields-nil : {X : Type 0} (gives : Place → List ℕ → List X) (now : Reached Place JobFault)
+pub yields-nil : {X : Type 0} (gives : Place → List ℕ → List X) (now : Reached Place JobFault)
     → yields job_format gives now [] ≡ []
 unfolding yields
 yields-nil gives now = refl
 
-none_yet : {X : Type 0} (gives : Place → List ℕ → List X) (now : Reached Place JobFault) (xs : List X)
+pub none_yet : {X : Type 0} (gives : Place → List ℕ → List X) (now : Reached Place JobFault) (xs : List X)
     → xs ≡ xs ++ yields job_format gives now []
 none_yet {X} gives now xs = sym (append-nil xs) ∙ ap (λ (l : List X). xs ++ l) (sym (yields-nil gives now))
 
@@ -237,7 +237,7 @@ both_give {X} gives now middle xs ys first items after is so_far more =
     ∙ append_assoc first (yields job_format gives now xs) (yields job_format gives (reached job_format now xs) ys)
     ∙ ap (λ (l : List X). first ++ l) (sym (yields-append job_format gives now xs ys))
 
-moves_both : (a b c : JobReader) (xs ys : List ℕ) → Moves a b xs → b.ended ≡ false → Moves b c ys → Moves a c (xs ++ ys)
+pub moves_both : (a b c : JobReader) (xs ys : List ℕ) → Moves a b xs → b.ended ≡ false → Moves b c ys → Moves a c (xs ++ ys)
 moves_both a b c xs ys first open_yet second = record {
   going = second.going;
   leads =

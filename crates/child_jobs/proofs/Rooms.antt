@@ -35,16 +35,16 @@ pub right_if : (P : Place → Type 0) (test : Bool) (fault : JobFault) (to : Pla
 right_if P true fault to holds = holds refl
 right_if P false fault to holds = tt
 
-both : (a b : Bool) → a ≡ true → b ≡ true → (a && b) ≡ true
+pub both : (a b : Bool) → a ≡ true → b ≡ true → (a && b) ≡ true
 both a b p q = grind (arith, nat_tests)
 
 heap_sound : (a b c : Bool) → a ≡ true → (b && c) ≡ true → (a && b && c) ≡ true
 heap_sound a b c p q = grind (arith, nat_tests)
 
-left_of : (a b : Bool) → (a && b) ≡ true → a ≡ true
+pub left_of : (a b : Bool) → (a && b) ≡ true → a ≡ true
 left_of a b p = grind (arith, nat_tests)
 
-right_of : (a b : Bool) → (a && b) ≡ true → b ≡ true
+pub right_of : (a b : Bool) → (a && b) ≡ true → b ≡ true
 right_of a b p = grind (arith, nat_tests)
 
 frame_left : (tally : Tally) (count : ℕ) → may_follow tally count ≡ true → (count == 0) ≡ false

@@ -1,4 +1,5 @@
 pub mod Ends
 pub mod Heads
+pub mod Items
 pub mod Reader
 pub mod Rooms

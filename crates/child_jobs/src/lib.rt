@@ -2,7 +2,7 @@
 //!
 //! - `write`: `write_job`, `write_solve` for a problem that stays with its owner, and `write_head` and `write_frame` for a
 //!   replay job in pieces
-//! - `reader`: `JobReader`, of a job whose bytes come in pieces
+//! - `reader`: `JobReader`, of a job whose bytes come in pieces; `items`: the items of a frame that stand whole in one
 //! - `head`: `JobHead`, what it knows once the head is there; `end`: `JobEnd`, what a whole job was
 //! - `read`: `read_job`, of a job in one piece
 //!
@@ -13,6 +13,7 @@
 
 mod end;
 mod head;
+mod items;
 mod read;
 mod reader;
 mod write;

@@ -13,12 +13,14 @@ ghost use Rattle.job_format.specs.declared.fault.JobFault.TheVariants as faults;
 ghost use Rattle.job_format.specs.declared.item.Item.{Item as AnItem};
 ghost use Rattle.child_jobs.specs.Ends.{Ends};
 ghost use Rattle.child_jobs.specs.Heads.{BeginsWith, Head, head_of};
+ghost use Rattle.child_jobs.specs.Items.{place_in_frame};
 ghost use Rattle.child_jobs.specs.Rooms.{Completes, HasRoom, ends_frame};
 
+use crate::items::read_items;
 use crate::{JobEnd, JobHead};
 use bound_certificate::Site;
 use job_format::{
-    HeadNumbers, HeadStep, HeldNeed, Item, JobFault, Kind, Place, item_at, judge, need_at,
+    HeadNumbers, HeadStep, HeldNeed, Item, JobFault, Kind, Place, Tally, item_at, judge, need_at,
     place_size, site_at,
 };
 use mon_io::Memory;
@@ -134,7 +136,7 @@ impl JobReader {
         Ok(taken)
     }
 
-    // Takes bytes up to the end of a field, which is judged where it stands if it is whole in the piece.
+    // Takes bytes up to the end of the items that stand whole in the piece, or else of a field.
     #[inline]
     fn step(&mut self, piece: &[u8]) -> Result<usize, JobFault>
         requires some { 0 < length piece.now }
@@ -149,6 +151,51 @@ impl JobReader {
         if self.filled > 0 {
             return self.take_part(piece);
         }
+        let taken = self.take_items(piece);
+        if taken > 0 {
+            return Ok(taken);
+        }
+        self.take_one(piece)
+    }
+
+    // Takes the right items that stand whole in the piece, if an item stands next.
+    #[inline]
+    fn take_items(&mut self, piece: &[u8]) -> usize
+        requires going { stopped self.old ≡ None }
+        requires within { self.old.ended ≡ false }
+        requires start { self.old.filled ≡ 0 }
+        ensures moves { Moves self.old self.new (take result piece.now) }
+        ensures bound { result ≤ length piece.now }
+        ensures within { result ≡ 0 → self.new.ended ≡ false }
+        ensures start { self.new.filled ≡ 0 }
+    {
+        let Place::Key {
+            numbers,
+            tally,
+            left,
+        } = &self.place
+        else {
+            return 0;
+        };
+        let (numbers, items) = (*numbers, tally.items);
+        let run = read_items(tally.weight, *left, piece, &mut self.frame);
+        self.ended = run.left == 0;
+        self.place = place_in_frame(numbers, items, run.weight, run.left);
+        run.taken
+    }
+
+    // Takes bytes up to the end of a field, which is judged where it stands if it is whole in the piece.
+    fn take_one(&mut self, piece: &[u8]) -> Result<usize, JobFault>
+        requires some { 0 < length piece.now }
+        requires going { stopped self.old ≡ None }
+        requires start { self.old.filled ≡ 0 }
+        requires within { self.old.ended ≡ false }
+        ensures moves { IfOk result (λ n. Moves self.old self.new (take n piece.now)) }
+        ensures some { IfOk result (λ n. 0 < n) }
+        ensures bound { IfOk result (λ n. n ≤ length piece.now) }
+        ensures breach { IfErr result (λ fault. reached job_format (state self.old) piece.now ≡ Broken fault) }
+        ensures stops { IfErr result (λ fault. stopped self.new ≡ Some fault) }
+    {
         let size = place_size(&self.place);
         if piece.len() < size {
             return self.take_part(piece);
@@ -297,6 +344,22 @@ fn first_place() -> Place
             heap: 0,
             seed: 0,
         },
+    }
+}
+
+// Behind so many items with so much weight, where so many are left of a frame.
+#[inline]
+fn place_in_frame(numbers: HeadNumbers, items: u32, weight: u64, left: u16) -> Place
+    ensures { result ≡ place_in_frame numbers items weight left }
+{
+    let tally = Tally { items, weight };
+    if left == 0 {
+        return Place::Count { numbers, tally };
+    }
+    Place::Key {
+        numbers,
+        tally,
+        left,
     }
 }
 
