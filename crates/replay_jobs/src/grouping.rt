@@ -1,16 +1,16 @@
 //! The shares of all epochs and switches.
-ghost use Rattle.std.specs.Prelude.{◌≡◌, ◌≤◌, ◌<◌, ◌*◌, ◌/◌, ◌%◌, ◌^◌, [], ℕ, All, IfOk, length, map};
+ghost use Rattle.std.specs.Prelude.{◌≡◌, ◌≤◌, ◌<◌, ◌*◌, ◌/◌, ◌%◌, ◌^◌, [], ℕ, List, All, IfOk, length, map};
 ghost use Rattle.hash_family.specs.Setting.{setting_of};
-ghost use Rattle.path_shares.specs.Shares.{share_job};
+ghost use Rattle.path_shares.specs.Shares.{AreOn, share_job};
 ghost use Rattle.routed_trace.specs.Routed.{weight_of_routed};
 ghost use Rattle.share_jobs.specs.Share.{share_of};
 ghost use Rattle.count_sketch.specs.Counters.{AllUpTo};
 ghost use Rattle.sketch_merge.specs.Merged.{HaveUpTo};
 ghost use Rattle.sketch_merge.specs.Merging.{merged_view};
 ghost use Rattle.replay_places.specs.Epochs.{share_at};
-ghost use Rattle.replay_jobs.specs.Grouped.{IsShareOf};
+ghost use Rattle.replay_jobs.specs.Grouped.{IsShareOf, job_number};
 
-use crate::share::share_items;
+use crate::share::{items_of, job_numbers};
 use flow_keys::Routed;
 use hash_family::Params;
 use mon_io::Memory;
@@ -31,6 +31,7 @@ pub(crate) fn all_shares(
     requires switches_some { 1 ≤ switches }
     requires switches_few { switches ≤ 32 }
     requires paths { All (λ packet. packet.path < length placement.now) routed.now }
+    requires placed { AreOn switches placement.now routed.now }
     requires few { length routed.now ≤ 1048576 }
     requires light { weight_of_routed routed.now ≤ 2 ^ 44 }
     ensures number { IfOk result (λ shares. length shares.items ≡ epochs * switches) }
@@ -38,9 +39,10 @@ pub(crate) fn all_shares(
         → IsShareOf (share_job (setting_of params.now) switches placement.now routed.now (job / switches) (job % switches))
         (share_at (map share_of shares.items) job)) }
 {
+    let numbers = job_numbers(alloc, switches, placement, routed)?;
     let mut shares = Vec::new(alloc);
-    for number in 0..u32::from(epochs) * u32::from(switches) {
-        let share = share_numbered(alloc, params, number, switches, placement, routed)?;
+    for number in 0..u16::from(epochs) * u16::from(switches) {
+        let share = share_numbered(alloc, params, number, &numbers, routed)?;
         if shares.push(share).is_err() {
             return Err(Memory);
         }
@@ -52,24 +54,22 @@ pub(crate) fn all_shares(
 fn share_numbered(
     alloc: Global,
     params: &Params,
-    number: u32,
-    switches: u8,
-    placement: &[u8],
+    number: u16,
+    numbers: &[u16],
     routed: &[Routed],
 ) -> Result<ShareJob, Memory>
-    requires numbered { number < 256 }
-    requires switches_some { 1 ≤ switches }
-    requires paths { All (λ packet. packet.path < length placement.now) routed.now }
     requires few { length routed.now ≤ 1048576 }
     requires light { weight_of_routed routed.now ≤ 2 ^ 44 }
-    ensures share { IfOk result (λ share. IsShareOf
-        (share_job (setting_of params.now) switches placement.now routed.now (number / switches) (number % switches))
+    requires numbered { (switches : ℕ) × (placement : List ℕ)
+        × (numbers.now ≡ map (job_number switches placement) routed.now) }
+    ensures share { IfOk result (λ share. (switches : ℕ) (placement : List ℕ) → 1 ≤ switches
+        → AreOn switches placement routed.now → numbers.now ≡ map (job_number switches placement) routed.now
+        → IsShareOf
+        (share_job (setting_of params.now) switches placement routed.now (number / switches) (number % switches))
         (share_of share)) }
 {
-    let epoch = (number / u32::from(switches)) as u8;
-    let switch = (number % u32::from(switches)) as u8;
-    let items = share_items(alloc, placement, routed, epoch, switch)?;
-    ShareJob::new(alloc, number, params, &items)
+    let items = items_of(alloc, numbers, routed, number)?;
+    ShareJob::new(alloc, u32::from(number), params, &items)
 }
 
 /// As many values of nothing merged as there are epochs. It takes memory.

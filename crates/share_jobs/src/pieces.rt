@@ -16,6 +16,7 @@ const FRAME: usize = 4096;
 
 // How many bytes a frame's count and an item take.
 const COUNT: usize = 2;
+
 const ITEM: usize = 48;
 
 /// The pieces of the replay job of this number: its head, each frame of the items, and the closing count. It takes

@@ -25,5 +25,6 @@ loop-number-preserved c =
           (c.loop-number.invariant.1 k under))
           (subst (IsShareOf (share_is number))
           (sym (ap (λ (n : ℕ). share_at (map share_of (jobs ++ job ∷ [])) n) (sym size) ∙ share_last jobs job))
-          c.in_ok-share.ensures.share)),
+          (c.in_ok-share.ensures.share c.args.switches c.args.placement.now c.requires.switches_some c.requires.placed
+          (c.deref.ensures.value ∙ c.in_ok-numbers.ensures.numbers)))),
     )
